@@ -37,9 +37,13 @@ ROWS = [
     ("replace_retire_busy_4096", 192_000, "library crossbeam_epoch"),
     ("replace_retire_busy_262144", 192_000, "library crossbeam_epoch"),
     ("replace_retire_busy_1048576", 192_000, "library crossbeam_epoch"),
+    ("map_get_1000", 768_000, "library crossbeam_epoch dashmap dashmap_fast_hash kit_rwlock"),
     ("map_get_100000", 384_000, "library library_grown crossbeam_epoch dashmap dashmap_fast_hash kit_rwlock"),
     ("map_90_5_5_100000", 192_000, "library crossbeam_epoch dashmap dashmap_fast_hash kit_rwlock"),
     ("map_get_1000000", 192_000, "library crossbeam_epoch dashmap dashmap_fast_hash kit_rwlock"),
+    ("ordered_get_10000", 48_000, "library crossbeam_epoch"),
+    ("ordered_get_100000", 24_000, "library crossbeam_epoch"),
+    ("ordered_range_100", 3_000, "library crossbeam_epoch"),
 ]
 
 

@@ -6,6 +6,7 @@ mod michael;
 #[path = "../../src/queue.rs"]
 mod queue;
 mod rounds;
+mod skip_list;
 #[path = "../../src/stack.rs"]
 mod stack;
 mod values;
@@ -58,9 +59,13 @@ fn time(row: &str, side: &str, size: Size) -> Option<Answer> {
         | "replace_retire_busy_1048576" => values::replace(side, size),
         "queue_push_pop" => lines::queue_pairs(side, size),
         "stack_push_pop" => lines::stack_pairs(side, size),
+        "map_get_1000" => maps::time::<1_000, 1_000>(side, size),
         "map_get_100000" => maps::time::<100_000, 100_000>(side, size),
         "map_90_5_5_100000" => maps::time::<100_000, 200_000>(side, size),
         "map_get_1000000" => maps::time::<1_000_000, 1_000_000>(side, size),
+        "ordered_get_10000" => maps::ordered_get::<10_000>(side, size),
+        "ordered_get_100000" => maps::ordered_get::<100_000>(side, size),
+        "ordered_range_100" => maps::ordered_range(side, size),
         _ => None,
     }
 }

@@ -1,7 +1,9 @@
-//! Maps from numbers to numbers: look-ups alone, or ninety in a hundred beside five inserts and five removals.
+//! Maps from numbers to numbers: look-ups alone, or ninety in a hundred beside five inserts and five removals. In an
+//! ordered map also walks over the entries from a key on.
 use crate::draw::{key, percent, Draw, SCATTER};
 use crate::michael;
 use crate::rounds::{rounds, Answer, Size};
+use crate::skip_list;
 use crossbeam_epoch as epoch;
 use dashmap::DashMap;
 use std::collections::hash_map::RandomState;
@@ -103,4 +105,46 @@ pub fn time<const KEYS: u64, const SPACE: u64>(side: &str, size: Size) -> Option
         "dashmap_fast_hash" => work::<KEYS, SPACE>(DashMap::<u64, u64, BuildHasherDefault<Multiply>>::default(), size),
         _ => None,
     }
+}
+
+/// Entries that a turn goes over in an ordered map.
+const TOGETHER: u64 = 100;
+
+/// Works on an ordered map of the numbers below `KEYS`. A turn is given one of those below `SPACE`, and returns whether
+/// it found what it should.
+fn ordered<const KEYS: u64, const SPACE: u64>(
+    side: &str,
+    size: Size,
+    turn: impl Fn(&skip_list::Map, u64) -> bool + Sync,
+) -> Option<Answer> {
+    if side != "crossbeam_epoch" {
+        return None;
+    }
+    let map = skip_list::Map::new();
+    for index in 0..KEYS {
+        let key = index * SCATTER % KEYS;
+        map.insert(key, key, &epoch::pin());
+    }
+    Some(rounds(size, |thread, round| {
+        let mut draw = Draw::of(thread, round);
+        let mut done = 0;
+        for _ in 0..size.turns {
+            done += u64::from(turn(&map, key::<SPACE>(draw.number())));
+        }
+        done
+    }))
+}
+
+pub fn ordered_get<const KEYS: u64>(side: &str, size: Size) -> Option<Answer> {
+    ordered::<KEYS, KEYS>(side, size, |map, key| map.get(key, &epoch::pin()) == Some(key))
+}
+
+/// Each value is its key, so the values' sum shows whether these are the entries from the key on. From each key on that
+/// is drawn, there are as many entries as a turn goes over.
+pub fn ordered_range(side: &str, size: Size) -> Option<Answer> {
+    ordered::<100_000, 99_901>(side, size, |map, key| {
+        let guard = epoch::pin();
+        let sum: u64 = map.range_from(key, &guard).take(TOGETHER as usize).sum();
+        sum == TOGETHER * key + TOGETHER * (TOGETHER - 1) / 2
+    })
 }

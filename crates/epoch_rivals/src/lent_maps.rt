@@ -22,10 +22,11 @@ const SPARE: u64 = 65_536;
 
 type NumberEntry = LentEntry<u64, u64>;
 
-/// What is done with a map: look-ups among 100,000 keys, in cells that were made at first or added one block after
-/// another; the same beside changes; or look-ups among a million.
+/// What is done with a map: look-ups among 1,000 keys; among 100,000, in cells that were made at first or added one
+/// block after another; the same beside changes; or look-ups among a million.
 #[derive(Clone, Copy)]
 pub enum MapRow {
+    FewLooks,
     Looks,
     GrownLooks,
     Changes,
@@ -36,6 +37,7 @@ impl MapRow {
     /// How many keys the map has at first.
     fn keys(self) -> u64 {
         match self {
+            MapRow::FewLooks => 1_000,
             MapRow::Looks | MapRow::GrownLooks | MapRow::Changes => 100_000,
             MapRow::ManyLooks => 1_000_000,
         }
@@ -178,6 +180,7 @@ fn rounds_over<R: Clock + Threads + Wait + Sync, J: PostSet + Send + Sync>(
     let mut cells = cells_in(alloc, first, count, &domain)?;
     let store = store_of(alloc, &domain, &mut cells)?;
     let done = match row {
+        MapRow::FewLooks => rounds_in::<1_000, 1_000, R, J>(rt, alloc, plan, &store, times),
         MapRow::Looks | MapRow::GrownLooks => rounds_in::<100_000, 100_000, R, J>(
             rt, alloc, plan, &store, times,
         ),

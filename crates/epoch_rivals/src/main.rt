@@ -12,6 +12,7 @@ mod kit;
 mod lent;
 mod lent_lines;
 mod lent_maps;
+mod lent_ordered;
 mod lent_values;
 mod rows;
 mod side;

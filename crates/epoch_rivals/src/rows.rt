@@ -1,9 +1,10 @@
 //! The rows of the comparison, with the sides that this program has.
 use crate::lent_lines::PairRow;
+use crate::lent_ordered::OrderedRow;
 use crate::lent_values::ValueRow;
 use crate::rows::SideWork::{
-    KitMany, KitMap, KitMix, KitQueue, KitRead, LentGrown, LentMany, LentMap, LentMix, LentPair,
-    LentValue,
+    KitFew, KitMany, KitMap, KitMix, KitQueue, KitRead, LentFew, LentGrown, LentMany, LentMap,
+    LentMix, LentOrdered, LentPair, LentValue,
 };
 
 /// What a turn of a side does.
@@ -13,7 +14,9 @@ pub enum SideWork {
     LentValue(ValueRow),
     /// Pushes to a queue or stack of lent nodes, and pops.
     LentPair(PairRow),
-    /// Looks up one of 100,000 keys in a map of lent nodes.
+    /// Looks up one of 1,000 keys in a map of lent nodes.
+    LentFew,
+    /// Looks up one of 100,000 keys there.
     LentMap,
     /// The same in cells that were added one block after another.
     LentGrown,
@@ -21,11 +24,15 @@ pub enum SideWork {
     LentMix,
     /// Looks up one of 1,000,000 keys there.
     LentMany,
+    /// Looks up keys in an ordered map of lent nodes, or goes over entries.
+    LentOrdered(OrderedRow),
     /// Reads a value in the kit's lock.
     KitRead,
     /// Pushes to the kit's queue, and pops.
     KitQueue,
-    /// Looks up one of 100,000 keys in the kit's map in a lock.
+    /// Looks up one of 1,000 keys in the kit's map in a lock.
+    KitFew,
+    /// Looks up one of 100,000 keys there.
     KitMap,
     /// Looks up one of 200,000 keys there, or changes the map.
     KitMix,
@@ -40,7 +47,7 @@ const REPLACE_IN_MORE: ValueRow = ValueRow::Replace { cells: 262_144 };
 const REPLACE_IN_MANY: ValueRow = ValueRow::Replace { cells: 1_048_576 };
 
 /// A row's name, a side's name, and its work. `tools/rivals.py` lists the sides that each row is measured on.
-pub const SIDES: [(&str, &str, SideWork); 18] = [
+pub const SIDES: [(&str, &str, SideWork); 23] = [
     ("read_pin_each", "library", LentValue(ValueRow::Renewed)),
     ("read_pin_each", "library_pin", LentValue(ValueRow::Pinned)),
     ("read_pin_each", "kit_rwlock", KitRead),
@@ -64,11 +71,28 @@ pub const SIDES: [(&str, &str, SideWork); 18] = [
         "library",
         LentValue(REPLACE_IN_MANY),
     ),
+    ("map_get_1000", "library", LentFew),
+    ("map_get_1000", "kit_rwlock", KitFew),
     ("map_get_100000", "library", LentMap),
+    ("map_get_100000", "library_grown", LentGrown),
     ("map_get_100000", "kit_rwlock", KitMap),
     ("map_90_5_5_100000", "library", LentMix),
     ("map_90_5_5_100000", "kit_rwlock", KitMix),
     ("map_get_1000000", "library", LentMany),
     ("map_get_1000000", "kit_rwlock", KitMany),
-    ("map_get_100000", "library_grown", LentGrown),
+    (
+        "ordered_get_10000",
+        "library",
+        LentOrdered(OrderedRow::Looks),
+    ),
+    (
+        "ordered_get_100000",
+        "library",
+        LentOrdered(OrderedRow::ManyLooks),
+    ),
+    (
+        "ordered_range_100",
+        "library",
+        LentOrdered(OrderedRow::Ranges),
+    ),
 ];

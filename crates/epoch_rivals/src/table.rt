@@ -3,7 +3,7 @@ use crate::lent_maps::MapRow;
 use crate::rows::{SIDES, SideWork};
 use crate::side::RoundPlan;
 use crate::stopwatch::Nanos;
-use crate::{kit, lent_lines, lent_maps, lent_values};
+use crate::{kit, lent_lines, lent_maps, lent_ordered, lent_values};
 use std::alloc::Global;
 use std::io;
 use std::sync::Wait;
@@ -21,12 +21,15 @@ fn rounds<R: Clock + Threads + Wait + Sync>(
     match work {
         SideWork::LentValue(row) => lent_values::rounds(rt, alloc, plan, row, times),
         SideWork::LentPair(row) => lent_lines::rounds(rt, alloc, plan, row, times),
+        SideWork::LentFew => lent_maps::rounds(rt, alloc, plan, MapRow::FewLooks, times),
         SideWork::LentMap => lent_maps::rounds(rt, alloc, plan, MapRow::Looks, times),
         SideWork::LentGrown => lent_maps::rounds(rt, alloc, plan, MapRow::GrownLooks, times),
         SideWork::LentMix => lent_maps::rounds(rt, alloc, plan, MapRow::Changes, times),
         SideWork::LentMany => lent_maps::rounds(rt, alloc, plan, MapRow::ManyLooks, times),
+        SideWork::LentOrdered(row) => lent_ordered::rounds(rt, alloc, plan, row, times),
         SideWork::KitRead => Ok(kit::read_rounds(rt, plan, times)),
         SideWork::KitQueue => kit::queue_rounds(rt, alloc, plan, times),
+        SideWork::KitFew => kit::map_rounds::<1_000, 1_000, R>(rt, alloc, plan, times),
         SideWork::KitMap => kit::map_rounds::<100_000, 100_000, R>(rt, alloc, plan, times),
         SideWork::KitMix => kit::map_rounds::<100_000, 200_000, R>(rt, alloc, plan, times),
         SideWork::KitMany => kit::map_rounds::<1_000_000, 1_000_000, R>(rt, alloc, plan, times),
@@ -72,10 +75,12 @@ pub fn time<R: Clock + Print + Threads + Wait + Sync>(
     println!(rt;)
 }
 
-/// The row that isn't counted, since its maps take long to fill.
+/// The rows that aren't counted, since their maps take long to fill. Smaller maps are, which have the same calls.
 const LARGEST: &str = "map_get_1000000";
 
-/// Makes a round of each side of all rows but [`LARGEST`], and prints how many turns did what they should. A side is
+const LARGEST_IN_ORDER: &str = "ordered_get_100000";
+
+/// Makes a round of each side of all rows but these two, and prints how many turns did what they should. A side is
 /// told by its place in [`SIDES`].
 pub fn count<R: Clock + Print + Threads + Wait + Sync>(
     rt: &R,
@@ -84,7 +89,7 @@ pub fn count<R: Clock + Print + Threads + Wait + Sync>(
 ) -> io::Result<()> {
     for at in 0..SIDES.len() {
         let (row, _, work) = SIDES[at];
-        if row != LARGEST {
+        if row != LARGEST && row != LARGEST_IN_ORDER {
             let done = rounds(rt, alloc, plan, work, &mut [Nanos(0)])?;
             println!(rt; "side {at}: {done} of {}", plan.turns)?;
         }
