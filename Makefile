@@ -88,6 +88,7 @@ test:
 	@tools/take.py --test
 	@tools/pages.py --check
 	@tools/sizes.py
+	@tools/repeats.py
 	@tools/gate.py
 	@tools/runs.py
 
