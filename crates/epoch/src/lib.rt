@@ -2,6 +2,7 @@
 //! know.
 #![tactic(auto)]
 
+mod no_work;
 pub mod removals;
 
 pub use epoch_atomic::atomic::{
@@ -16,6 +17,7 @@ pub use epoch_handles::structures::{is_under, serves};
 pub use epoch_handles::{Capacities, Collector, Guard, LocalHandle, Paused, Released, unprotected};
 pub use epoch_tables::Seated;
 pub use epoch_tables::ends::{AtEnd, end_next};
+pub use no_work::NoWork;
 pub use removals::{defer_removal, make_room};
 
 /// Epochs, which are numbers, and the words of participants.

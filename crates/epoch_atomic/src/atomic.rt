@@ -97,8 +97,8 @@ impl<T: Pointable, A: SharedWord> Atomic<T, A> {
         ensures read { IsRead T.ALIGN result.name result.tag }
         ensures below { result.tag < T.ALIGN }
         ensures home { IsUnder guard.now.collector.now.id result.home }
-        // Each call makes the atomic step that its name says, on the word of its `Atomic`. A load is one load, which
-        // found the pointer that is returned.
+        // Each call makes the atomic step that its name says, on the word of its `Atomic`. A load found the
+        // pointer that is returned there.
         ensures did { LoadsPointer T.ALIGN (A.did self.now.word) result.name result.tag }
     {
         self.load(Ordering::Acquire, guard)

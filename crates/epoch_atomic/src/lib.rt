@@ -5,9 +5,8 @@ mod array;
 pub mod atomic;
 mod orders;
 mod plain;
-mod pointable;
 
 pub use array::Array;
+pub use epoch_handles::{Pointable, tag_of};
 pub use orders::CompareAndSetOrdering;
 pub use plain::Plain;
-pub use pointable::{Pointable, tag_of};

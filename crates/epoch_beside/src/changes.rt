@@ -187,7 +187,7 @@ fn pointer_rounds<R: Clock + Threads + Wait + Sync, J: PostSet + Send + Sync>(
     let mut cells = cells_in(alloc, &domain)?;
     let store = store_of::<J, Link>(alloc, &domain, &mut cells)?;
     let done = pointer_rounds_in(rt, alloc, size, &store, row, times);
-    let _ = store.end(alloc);
+    let _ = store.end();
     Ok(done)
 }
 
@@ -378,7 +378,7 @@ fn stack_rounds<R: Clock + Threads + Wait + Sync, J: PostSet + Send + Sync>(
     let mut cells = cells_in(alloc, &domain)?;
     let store = store_of::<J, Link>(alloc, &domain, &mut cells)?;
     let done = stack_rounds_in(rt, alloc, size, &store, is_renewed, times);
-    let _ = store.end(alloc);
+    let _ = store.end();
     Ok(done)
 }
 
@@ -422,7 +422,7 @@ fn queue_rounds<R: Clock + Threads + Wait + Sync, J: PostSet + Send + Sync>(
     let mut cells = cells_in(alloc, &domain)?;
     let store = store_of::<J, Link>(alloc, &domain, &mut cells)?;
     let done = queue_rounds_in(rt, alloc, size, &store, is_renewed, times);
-    let _ = store.end(alloc);
+    let _ = store.end();
     Ok(done)
 }
 

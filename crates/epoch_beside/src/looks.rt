@@ -197,7 +197,7 @@ fn cell_rounds<R: Clock + Threads + Wait + Sync, J: PostSet + Send + Sync>(
     let mut cells = cells_in(alloc, &domain)?;
     let store = store_of::<J, u64>(alloc, &domain, &mut cells)?;
     let done = cell_rounds_in(rt, alloc, size, &store, row, times);
-    let _ = store.end(alloc);
+    let _ = store.end();
     Ok(done)
 }
 
@@ -260,7 +260,7 @@ fn list_rounds<R: Clock + Threads + Wait + Sync, J: PostSet + Send + Sync>(
     let mut cells = cells_in(alloc, &domain)?;
     let store = store_of::<J, SortedEntry>(alloc, &domain, &mut cells)?;
     let done = list_rounds_in(rt, alloc, size, &store, times);
-    let _ = store.end(alloc);
+    let _ = store.end();
     Ok(done)
 }
 
@@ -333,7 +333,7 @@ fn map_rounds<R: Clock + Threads + Wait + Sync, J: PostSet + Send + Sync>(
     let mut cells = cells_in(alloc, &domain)?;
     let store = store_of::<J, KeyNode>(alloc, &domain, &mut cells)?;
     let done = map_rounds_in(rt, alloc, size, &store, times);
-    let _ = store.end(alloc);
+    let _ = store.end();
     Ok(done)
 }
 

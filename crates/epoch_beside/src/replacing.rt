@@ -317,7 +317,7 @@ fn shelf_rounds<R: Clock + Threads + Wait + Sync, J: PostSet + Send + Sync>(
     let mut cells = cells_in(alloc, &domain)?;
     let store = store_of::<J, Block>(alloc, &domain, &mut cells)?;
     shelf_rounds_in(rt, alloc, size, &store, shelf);
-    let _ = store.end(alloc);
+    let _ = store.end();
     Ok(())
 }
 

@@ -8,6 +8,7 @@ ghost use Rattle.epoch_machine.specs.Machine.{IsSized};
 ghost use Rattle.epoch_tables.specs.Ends.{CallsAllLeft};
 ghost use Rattle.epoch_handles.specs.Capacities.{AreValid, sizes_for};
 
+use crate::home::CollectorCells;
 use epoch_bags::{BAG_JOBS, Job, Work};
 use epoch_cells::{Cells, Fault, MOST_SLOT};
 use epoch_machine::Sizes;
@@ -78,7 +79,7 @@ pub struct Collector<T, W = Work> {
     pub(crate) participants: Participants<Job<W>>,
     pub(crate) places: SharedPlaces<Job<W>>,
     pub(crate) id: u64,
-    pub(crate) cells: Cells<T>,
+    pub(crate) cells: CollectorCells<T>,
     pub(crate) sizes: Sizes,
     after: [u64; 8],
     pub(crate) ghost sized: { IsSized sizes },
@@ -130,16 +131,16 @@ impl<T: Drop, W: Drop> Collector<T, W> {
         ensures id { IfOk result (λ collector. collector.id ≡ id) }
         ensures participants { IfOk result (λ collector. collector.participants.positions ≡ capacities.participants) }
         ensures bags { IfOk result (λ collector. collector.places.capacity ≡ capacities.bags) }
-        ensures cells { IfOk result (λ collector. vec_len collector.cells.slots ≡ capacities.cells) }
+        ensures cells { IfOk result (λ collector. vec_len collector.cells.store.slots ≡ capacities.cells) }
         ensures sizes { IfOk result (λ collector. collector.sizes ≡ sizes_for capacities) }
     {
         let participants = Participants::new(alloc, capacities.participants as usize)?;
-        let cells = Cells::with_positions(
+        let cells = CollectorCells::of(Cells::with_positions(
             alloc,
             capacities.cells,
             0,
             capacities.participants as usize,
-        )?;
+        )?);
         let sizes = Sizes {
             positions: capacities.participants as u64,
             bag_jobs: capacities.bag_jobs as u64,
@@ -179,8 +180,9 @@ impl<T: Drop, W: AtEnd<T>> Collector<T, W> {
             sizes: _,
             after: _,
         } = self;
+        let store = cells.into_store();
         let mut left = W::close(places.unshare());
-        let count = end_left(&cells, &mut left);
+        let count = end_left(&store, &mut left);
         left.free();
         count
     }

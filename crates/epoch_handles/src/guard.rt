@@ -105,7 +105,7 @@ impl<'c, T: Drop, W: Run> Guard<'c, T, W> {
         if self.position.is_some() {
             return Err(job);
         }
-        Ok(job.call(&self.collector.cells))
+        Ok(self.collector.call(job))
     }
 }
 

@@ -71,7 +71,7 @@ impl<'c, T, W> LocalHandle<'c, T, W> {
     pub fn can_pin(&self) -> bool
         ensures { IsTrue result ↔ (self.now.machine.guards + 1 < 2 ^ 32) }
     {
-        self.local.machine.guards() < u32::MAX
+        self.guards_out() < u32::MAX
     }
 
     /// Returns whether the held bag takes a further job without being put into a place first.
@@ -248,7 +248,7 @@ impl<'c, T: Drop, W: Run> LocalHandle<'c, T, W> {
                 value: job,
             });
         }
-        let _ = job.call(&self.local.collector.cells);
+        let _ = self.local.collector.call(job);
         Ok(())
     }
 

@@ -2,7 +2,8 @@
 ghost use Rattle.std.specs.Prelude.{◌≡◌, ◌≤◌, IfErr, IfOk, vec_len};
 
 use crate::guard::Guard;
-use epoch_cells::{Cells, Room, Rooms};
+use crate::home::CollectorCells;
+use epoch_cells::{Room, Rooms};
 use std::cell::Cell;
 use std::marker::Model;
 
@@ -51,7 +52,7 @@ impl<'c, T: Drop> OwnRooms<'c, T> {
     /// Makes a list for the next guard, if there is none. Of two lists it gets the one with more rooms. If memory for a
     /// list is refused, the participant keeps no cell.
     #[inline(never)]
-    pub(crate) fn begin(&mut self, cells: &'c Cells<T>) {
+    pub(crate) fn begin(&mut self, cells: &'c CollectorCells<T>) {
         if self.next.is_some() {
             if let Some(spare) = self.spare.take() {
                 self.put_fuller_first(spare);
@@ -99,7 +100,7 @@ impl<'c, T: Drop> OwnRooms<'c, T> {
     /// first one was refused.
     pub(crate) fn receiving(
         &mut self,
-        cells: &'c Cells<T>,
+        cells: &'c CollectorCells<T>,
         guards_out: bool,
     ) -> Option<Box<Rooms<'c, T>>> {
         self.begin(cells);
@@ -169,7 +170,7 @@ impl<'c, T: Drop, W> Guard<'c, T, W> {
     /// [`Rooms::move_to_kept`] does. `Err`: there is no room, and the value is handed back.
     #[inline(always)]
     pub(crate) fn room_for(&self, value: Box<T>) -> Result<(Room<'c, T>, Box<T>), Box<T>>
-        ensures slot { IfOk result (λ found. found.0.name.slot ≤ vec_len self.now.collector.now.cells.slots) }
+        ensures slot { IfOk result (λ found. found.0.name.slot ≤ vec_len self.now.collector.now.cells.store.slots) }
         ensures value { IfOk result (λ found. found.1.value ≡ value.value) }
         ensures handed_back { IfErr result (λ back. back ≡ value) }
     {

@@ -87,8 +87,7 @@ impl<J: PostSet> Domain<J> {
         self.numbers.fetch_add(1, SeqCst)
     }
 
-    /// Moves the clock on, and returns the epoch that it shows from then on, in which pins from then on begin. It is
-    /// wrong by wrapping only after 2^63 calls.
+    /// Moves the clock on, and returns its new epoch, in which pins from then on begin. It wraps after 2^63 calls.
     pub fn tick<S: PinSteps>(&self) -> u64
     where
         J: HasPinSteps<S>,
@@ -132,8 +131,7 @@ fn least_with(least: u64, word: u64) -> u64
     }
 }
 
-/// Makes a domain with this many posts, and returns what the work makes of it. The domain is dropped afterwards. It
-/// fails only if memory is refused.
+/// Has the work done in a new domain with this many posts, and returns its answer. It fails only if memory is refused.
 pub fn with_domain<W: DomainWork + Drop>(
     alloc: Global,
     posts: usize,

@@ -19,8 +19,7 @@ impl<'g, T> Model for Glance<'g, T> {
     ghost also_owns = { λ h. glance_owns 'g T.row h.at h.value h.right };
 }
 
-/// What a marking gained: nothing, or the value with what was lent of it.
-#[derive(Drop)]
+/// What a marking gained: nothing, or the value with what was lent of it. It can't be dropped.
 pub struct Marked<T> {
     pub at: *const T,
     pub ghost right: { ℕ },

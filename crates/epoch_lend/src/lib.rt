@@ -1,5 +1,5 @@
-//! Values that are lent to guards for as long as the guards live, by one plain load. A caller that marks a value gets
-//! the whole value back.
+//! Values that are lent to guards for as long as the guards live, by plain loads. A caller that marks a value gets the
+//! whole value back.
 #![tactic(auto)]
 
 pub mod array;

@@ -51,8 +51,7 @@ impl Model for Pin {
     ghost also_owns = { λ p. pin_owns p.atom p.state };
 }
 
-/// A guard of a pin. All guards of one pin share a lifetime, which `atom` names: 2^63 parts, of which this is `count`.
-/// It has no bytes.
+/// A guard of a pin, without bytes. All guards of a pin share a lifetime, `atom`, of whose 2^63 parts it has `count`.
 #[derive(Drop)]
 pub struct PostGuard {
     pub(crate) marker: PhantomData<()>,

@@ -1,4 +1,4 @@
-//! Readers, which pin at the posts of a set, and the values that are lent to their guards by one plain load. No call
-//! asks for what its caller can't test.
+//! Readers, which pin at the posts of a set, and the values that are lent to their guards by plain loads. No call asks
+//! for what its caller can't test.
 pub mod posts;
 pub mod reader;

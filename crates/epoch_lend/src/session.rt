@@ -8,8 +8,7 @@ use crate::readers::posts::PostSet;
 use crate::readers::reader::{Pinned, Reader};
 use crate::steps::{HasPinSteps, PinSteps};
 
-/// One post of a domain, for one thread at a time. Dropped, it gives the post back; but while a guard of it is out,
-/// that has the post.
+/// One post of a domain, for one thread at a time. Dropped, it gives the post back, unless a guard has it.
 #[derive(Drop)]
 pub struct Session<'d, J: PostSet> {
     // `None` while a guard is out.
@@ -17,8 +16,7 @@ pub struct Session<'d, J: PostSet> {
     pub(crate) domain: &'d Domain<J>,
 }
 
-/// A guard of a pin, to which values of each store of the domain are lent. It must be given back, to
-/// [`Session::unpin`].
+/// A guard of a pin, to which values of each store of the domain are lent. It must go back to [`Session::unpin`].
 ///
 /// What is lent under a reference to it stays for as long as that reference does.
 pub struct LendingGuard<'d, J: PostSet> {
@@ -80,8 +78,7 @@ impl<'d, J: PostSet> Session<'d, J> {
         self.reader = Some(reader);
     }
 
-    /// Gives the post back, for another session. While a guard is out, the guard has the post:
-    /// [`LendingGuard::release`].
+    /// Gives the post back, for another session. A guard that is out has the post: [`LendingGuard::release`].
     pub fn release(self) {
         if let Some(reader) = self.reader {
             reader.release();
@@ -128,11 +125,9 @@ impl<'d, J: PostSet> LendingGuard<'d, J> {
         S::load_clock(self.domain) == self.pinned.epoch()
     }
 
-    /// Returns a guard that pins in the epoch which the clock shows now. What was lent before can't be used any more,
-    /// since the guard was handed in.
+    /// Returns a guard pinned in the epoch that the clock shows now. What was lent before can't be used any more.
     ///
-    /// While the clock hasn't moved it is the same pin, and nothing is stored. Otherwise the pin ends, and another
-    /// begins, by two stores to the post.
+    /// While the clock hasn't moved it is the same pin, and nothing is stored. Otherwise the post is stored to twice.
     #[inline(always)]
     pub fn renew<S: PinSteps>(self) -> LendingGuard<'d, J>
     where

@@ -12,8 +12,7 @@ use std::sync::atomic::Ordering::SeqCst;
 
 /// How the steps of a domain are made. There is one way, and no caller names it: [`HasPinSteps`].
 pub trait PinSteps {
-    /// This step was made in the domain of these posts. If the type is a parameter, nothing but the calls below shows
-    /// it.
+    /// This step was made in the domain of these posts. If the type is a parameter, only the calls below show it.
     ghost did: { List PostNames → PinStep → Type 0 };
 
     /// Loads the epoch that the clock shows.
@@ -46,8 +45,7 @@ pub trait PinSteps {
     fn tick<J: PostSet>(domain: &Domain<J>) -> u64
         ensures did { did J.posts (Ticks result) };
 
-    /// Looks at the post at this position, by one plain load, after the clock was loaded and showed this epoch. Returns
-    /// the word that it found.
+    /// Looks at the post at this position, by one plain load, after the clock showed this epoch. Returns the word.
     fn look<J: PostSet>(domain: &Domain<J>, clock: u64, position: usize) -> u64
         requires loaded { did J.posts (LoadsClock clock) }
         requires stands { position < length J.posts }

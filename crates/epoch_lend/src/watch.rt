@@ -90,8 +90,7 @@ impl Watch {
         (seal, watch)
     }
 
-    /// Looks at each post once more. Returns whether each is unpinned, or in the seal's epoch or a later one: then
-    /// each guard that had a loan is over.
+    /// Looks at each post once more. `true`: each is unpinned, or not before the seal, so guards with loans are over.
     pub fn scan(self, posts: &[Post], seal: u64) -> (bool, Watch)
         requires lent { Within (logs_of posts.now) self.loans }
         requires sealed { EachSeen (is_sealed seal) (logs_of posts.now) self.seen }
@@ -110,8 +109,7 @@ impl Watch {
         (clear, watch)
     }
 
-    /// Looks at each post once, up to the first one that is pinned. Returns whether none is: then each guard that had a
-    /// loan is over.
+    /// Looks at each post, up to the first that is pinned. `true`: none is, and each guard that had a loan is over.
     #[inline(always)]
     pub fn unpinned(self, posts: &[Post]) -> (bool, Watch)
         requires lent { Within (logs_of posts.now) self.loans }

@@ -3,6 +3,7 @@
 #![tactic(auto)]
 
 mod gathering;
+mod link;
 mod node;
 mod placing;
 mod points;
@@ -10,6 +11,7 @@ mod serving;
 mod spots;
 
 pub use gathering::Gathers;
+pub use link::{Changing, Link};
 pub use node::{LentNode, ListNode};
 pub use placing::{Standing, begin_call, begin_placing, place_node, placed_in};
 pub use points::{ptr_of, write_at};

@@ -3,25 +3,26 @@ ghost use Rattle.std.specs.Prelude.{◌≡◌, refl};
 ghost use Rattle.std.proofs.Common.{lit≤};
 ghost use Rattle.epoch_lend_nodes.specs.Nodes.{value_of};
 
-use epoch_atomic::atomic::{Atomic, Pointable};
+use crate::link::Link;
+use epoch_atomic::atomic::Pointable;
 use epoch_cells::Fault;
 use std::alloc::Global;
 
 /// A type of nodes. [`ListNode`] has a value of any type, and a type of your own has what you like beside the pointer.
 pub trait LentNode: Pointable + Drop + Sized {
-    /// Returns the pointer to the node behind this one. It is null where the node is made, and then only the structure
-    /// changes it: a caller that stores another one has the structure lead elsewhere.
-    fn next(&self) -> &Atomic<Self>;
+    /// Returns the pointer to the node behind this one. It is null where the node is made, and then only a call that
+    /// has a writer can change it.
+    fn next(&self) -> &Link<Self>;
 
     /// Has this node, which no other thread has, point to the node behind it.
-    fn set_next(&mut self, next: Atomic<Self>);
+    fn set_next(&mut self, next: Link<Self>);
 }
 
 /// A value, and the pointer to the node behind it.
 #[derive(Drop)]
 pub struct ListNode<V> {
     value: V,
-    next: Atomic<ListNode<V>>,
+    next: Link<ListNode<V>>,
 }
 
 impl<V: Drop> ListNode<V> {
@@ -30,7 +31,7 @@ impl<V: Drop> ListNode<V> {
         // A node has the value that it was made with.
         ensures { value_of result ≡ value }
     {
-        let next = Atomic::null();
+        let next = Link::null();
         ListNode { value, next }
     }
 
@@ -75,12 +76,12 @@ impl<V> Pointable for ListNode<V> {
 
 impl<V: Drop> LentNode for ListNode<V> {
     #[inline(always)]
-    fn next(&self) -> &Atomic<ListNode<V>> {
+    fn next(&self) -> &Link<ListNode<V>> {
         &self.next
     }
 
     #[inline(always)]
-    fn set_next(&mut self, next: Atomic<ListNode<V>>) {
+    fn set_next(&mut self, next: Link<ListNode<V>>) {
         self.next = next;
     }
 }

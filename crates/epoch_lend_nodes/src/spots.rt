@@ -1,5 +1,5 @@
 //! The roots of a structure that threads share, and its nodes, which are lent.
-ghost use Rattle.std.specs.Prelude.{◌≡◌, ◌≤◌, ℕ, Option, Some, None};
+ghost use Rattle.std.specs.Prelude.{◌≡◌, ◌≤◌, ◌⊎◌, ℕ, map, Option, Some, None, IfSome};
 ghost use Rattle.epoch_cells.specs.declared.fault.Fault.TheVariants.{CellsFull};
 ghost use Rattle.epoch_laws.specs.declared.heap.access.Access.TheVariants.{Place, Read, Leave, Point};
 ghost use Rattle.epoch_laws.specs.declared.heap.access.AccessAnswer.TheVariants.{Unit as Nothing};
@@ -11,16 +11,17 @@ ghost use Rattle.epoch_structure_calls.specs.Linking.{placed, loaded, value_read
 ghost use Rattle.epoch_structure_calls.specs.Paths.{IsTold, reply_given};
 ghost use Rattle.epoch_structure_laws.specs.Plans.{ptr_to};
 
+use crate::link::{Changing, Link};
 use crate::node::LentNode;
 use crate::points::{change_at, ptr_of, shared};
 use epoch_atomic::atomic::Atomic;
 use epoch_cells::{Fault, Name};
-use epoch_handles::Home;
 use epoch_laws::heap::{Access, AccessAnswer, Change, Ptr, Spot};
 use epoch_lend::array::room::LentRoom;
 use epoch_lend::readers::posts::PostSet;
 use epoch_lend::readers::reader::Pinned;
 use epoch_lend_pointers::LentCells;
+use epoch_lend_pointers::steps::{HasStoreSteps, StoreSteps};
 use epoch_lend_pointers::store::spots::next_name;
 use epoch_structure_calls::links::LinkSpots;
 use epoch_structure_calls::phases::Spots;
@@ -57,8 +58,8 @@ pub struct NodeSpots<'g, 'd, 's, J: PostSet, V> {
     // `None`: the structure has one root.
     tail: Option<&'g Atomic<V>>,
     cells: &'g LentCells<J, V>,
-    // The home of the structure's pointers.
-    home: Home<'g, V>,
+    // The call has a writer of the structure's store.
+    changing: Changing<'g, V>,
     pinned: &'g Pinned<'d, J>,
     nodes: CallNodes<'g, V>,
     // A free cell for the node that the call places.
@@ -75,7 +76,7 @@ impl<'g, 'd, 's, J: PostSet, V: LentNode> NodeSpots<'g, 'd, 's, J, V> {
         head: &'g Atomic<V>,
         tail: Option<&'g Atomic<V>>,
         cells: &'g LentCells<J, V>,
-        home: Home<'g, V>,
+        changing: Changing<'g, V>,
         pinned: &'g Pinned<'d, J>,
         own: Option<V>,
         room: Option<LentRoom<'s, J, V>>,
@@ -93,7 +94,7 @@ impl<'g, 'd, 's, J: PostSet, V: LentNode> NodeSpots<'g, 'd, 's, J, V> {
             head,
             tail,
             cells,
-            home,
+            changing,
             pinned,
             nodes,
             room,
@@ -113,7 +114,7 @@ impl<'g, 'd, 's, J: PostSet, V: LentNode> NodeSpots<'g, 'd, 's, J, V> {
             head: _,
             tail: _,
             cells: _,
-            home: _,
+            changing: _,
             pinned: _,
             nodes,
             room,
@@ -157,10 +158,10 @@ impl<'g, 'd, 's, J: PostSet, V: LentNode> NodeSpots<'g, 'd, 's, J, V> {
     fn lead_to(&mut self, name: Name, next: Ptr) -> bool
         ensures { self.new.nodes ≡ self.old.nodes }
     {
-        let home = self.home;
+        let home = self.changing.home();
         match &mut self.unshown {
             Some(unshown) if unshown.name == name => {
-                unshown.node.set_next(Atomic::from(shared(next, home)));
+                unshown.node.set_next(Link::to(shared(next, home)));
                 true
             }
             _ => false,
@@ -169,16 +170,24 @@ impl<'g, 'd, 's, J: PostSet, V: LentNode> NodeSpots<'g, 'd, 's, J, V> {
 
     // Looks at the node of this name, which is lent for as long as the pin is borrowed.
     #[inline(always)]
-    fn look(&self, name: Name) -> Option<&'g V> {
-        match self.cells.look(name, self.pinned) {
-            Some(sight) => Some(sight.value),
-            None => None,
-        }
+    fn look<M: StoreSteps<V>>(&self, name: Name) -> Option<&'g V>
+    where
+        V: HasStoreSteps<M>,
+        // A node that an access looks at is one that the structure's cells lent under the name that was asked for.
+        ensures { IfSome result (λ node. M.lent (map (λ s. s.turns.log) self.now.cells.now.cells.first.slots.items)
+            name node.now) }
+    {
+        M::look_in(self.cells, name, self.pinned)
     }
 
     // The node of this name, with no look if it was read last.
     #[inline(always)]
-    fn node_of(&self, name: Name) -> Option<&'g V> {
+    fn node_of<M: StoreSteps<V>>(&self, name: Name) -> Option<&'g V>
+    where
+        V: HasStoreSteps<M>,
+        ensures { (result ≡ self.now.nodes.lent) ⊎ IfSome result
+            (λ node. M.lent (map (λ s. s.turns.log) self.now.cells.now.cells.first.slots.items) name node.now) }
+    {
         if let Some(read) = self.nodes.name {
             if read == name {
                 return self.nodes.lent;
@@ -201,7 +210,7 @@ impl<'g, 'd, 's, J: PostSet, V: LentNode> NodeSpots<'g, 'd, 's, J, V> {
     #[inline(always)]
     fn at_node(&self, name: Name) -> Option<&'g Atomic<V>> {
         match self.node_of(name) {
-            Some(node) => Some(node.next()),
+            Some(node) => Some(node.next().to_change(self.changing)),
             None => None,
         }
     }
@@ -219,7 +228,7 @@ impl<'g, 'd, 's, J: PostSet, V: LentNode> NodeSpots<'g, 'd, 's, J, V> {
     #[inline(always)]
     fn load_at(&self, at: Option<&'g Atomic<V>>) -> Option<Ptr> {
         match at {
-            Some(at) => Some(ptr_of(at.load_at(SeqCst, self.home))),
+            Some(at) => Some(ptr_of(at.load_at(SeqCst, self.changing.home()))),
             None => None,
         }
     }
@@ -230,10 +239,31 @@ impl<'g, 'd, 's, J: PostSet, V: LentNode> NodeSpots<'g, 'd, 's, J, V> {
         let Some(at) = at else {
             return false;
         };
-        let home = self.home;
+        let home = self.changing.home();
         let (current, new) = (shared(current, home), shared(new, home));
         at.compare_exchange_at(current, new, SeqCst, SeqCst, home)
             .is_ok()
+    }
+
+    // Reads the node of this name, and keeps it. `None`: it isn't lent.
+    #[inline(always)]
+    fn read_named<M: StoreSteps<V>>(&mut self, name: Name) -> Option<u64>
+    where
+        V: HasStoreSteps<M>,
+        // A node that is read is kept under its name, and is the one that the structure's cells lent under it.
+        ensures does { MovesNodes self.old.nodes (Read (Some 0) (ptr_to name)) (Done (value_read result))
+            self.new.nodes }
+        ensures lent { IfSome result (λ number. IfSome self.new.nodes.lent
+            (λ node. M.lent (map (λ s. s.turns.log) self.old.cells.now.cells.first.slots.items) name node.now)) }
+    {
+        match self.look(name) {
+            Some(node) => {
+                self.nodes.name = Some(name);
+                self.nodes.lent = Some(node);
+                Some(0)
+            }
+            None => None,
+        }
     }
 
     // Reads the node to which the pointer leads. `Absent`: it isn't lent.
@@ -264,7 +294,7 @@ impl<'g, 'd, 's, J: PostSet, V: LentNode> NodeSpots<'g, 'd, 's, J, V> {
             self.show();
         }
         match self.at(spot) {
-            Some(at) => change_at(at, change, self.home),
+            Some(at) => change_at(at, change, self.changing.home()),
             None => AccessAnswer::Absent,
         }
     }
@@ -318,14 +348,7 @@ impl<'g, 'd, 's, J: PostSet, V: LentNode> LinkSpots for NodeSpots<'g, 'd, 's, J,
     fn read_node(&mut self, node: Name) -> Option<u64>
         ensures { MovesNodes self.old.nodes (Read (Some 0) (ptr_to node)) (Done (value_read result)) self.new.nodes }
     {
-        match self.look(node) {
-            Some(lent) => {
-                self.nodes.name = Some(node);
-                self.nodes.lent = Some(lent);
-                Some(0)
-            }
-            None => None,
-        }
+        self.read_named(node)
     }
 
     // What is lent need not be given back.
@@ -355,7 +378,7 @@ impl<'g, 'd, 's, J: PostSet, V: LentNode> LinkSpots for NodeSpots<'g, 'd, 's, J,
         let Some(at) = self.at_node(node) else {
             return false;
         };
-        at.store_at(shared(next, self.home), SeqCst);
+        at.store_at(shared(next, self.changing.home()), SeqCst);
         true
     }
 

@@ -123,7 +123,7 @@ impl<J: PostSet, T> Store<'_, J, T> {
 }
 
 impl<J: PostSet, T: Drop> Store<'_, J, T> {
-    /// Lends the value that the pointer names, by one plain load, for as long as this guard is borrowed. The pointer
+    /// Lends the value that the pointer names, by plain loads, for as long as this guard is borrowed. The pointer
     /// must be of this store: a pointer of another one gets what this store has under its name.
     ///
     /// `None`: the pointer is null; or its value was retired, and each pin from before is over.

@@ -1,11 +1,13 @@
 //! What a writer does with retired values: it gathers them, and lets them wait together in the store.
-ghost use Rattle.std.specs.Prelude.{◌≡◌, ◌≤◌, ◌⊎◌, [], length, None, Some, IsOk, IsErr, IfErr, IfSome, IsNone};
+ghost use Rattle.std.specs.Prelude.{◌≡◌, ◌<◌, ◌≤◌, ◌⊎◌, [], length, vec_len, None, Some, IsOk, IsErr, IfErr};
+ghost use Rattle.std.specs.Prelude.{IfSome, IsNone};
 ghost use Rattle.epoch_cells.specs.declared.fault.Fault.TheVariants.{NoMemory, StrangerPointer};
 ghost use Rattle.epoch_atomic.specs.Pointers.{IsUnder};
 ghost use Rattle.epoch_lend_pointers.specs.Retiring.{KeepsSpot};
 ghost use Rattle.epoch_lend_pointers.specs.Steps.{HandsOver, HandsOverAll, StaysOrWaits, GathersOn};
 
 use crate::steps::{HasStoreSteps, StoreSteps};
+use crate::store::Held;
 use crate::store::retired::{RETIRED_TOGETHER, Retired, Ripening};
 use crate::store::spots::spot_of;
 use crate::writer::Writer;
@@ -44,7 +46,7 @@ impl<'q, 's, J: PostSet, T: Drop> Writer<'q, 's, J, T> {
         match M::let_wait(self.store, ripening) {
             Ok(()) => Ok(()),
             Err(back) => {
-                self.kept = back.into_retired();
+                mem::replace(&mut self.kept, back.into_retired()).finish();
                 Err(Fault::NoMemory)
             }
         }
@@ -54,17 +56,30 @@ impl<'q, 's, J: PostSet, T: Drop> Writer<'q, 's, J, T> {
     pub(crate) fn put_held(&mut self) -> Result<(), Fault>
         ensures store { self.new.store ≡ self.old.store }
         ensures kept { self.new.kept ≡ self.old.kept }
+        ensures none { IsOk result → self.new.held ≡ None }
         ensures fault { IfErr result (λ fault. fault ≡ NoMemory) }
     {
-        let Some(waiting) = self.held.take() else {
+        let Some(held) = self.held.take() else {
             return Ok(());
         };
-        match self.store.waiting.put(waiting) {
+        match self.store.put_held(held) {
             Ok(()) => Ok(()),
-            Err(waiting) => {
-                self.held = Some(waiting);
+            Err(held) => {
+                self.hold(held);
                 Err(Fault::NoMemory)
             }
+        }
+    }
+
+    // Keeps what found no place in the store, if there is nothing else.
+    pub(crate) fn hold(&mut self, held: Held<'s, J, T>)
+        requires { self.old.held ≡ None }
+        ensures store { self.new.store ≡ self.old.store }
+        ensures kept { self.new.kept ≡ self.old.kept }
+    {
+        match self.held.replace(held) {
+            None => {}
+            Some(_) => unreachable!(),
         }
     }
 
@@ -156,10 +171,8 @@ impl<'q, 's, J: PostSet, T: Drop> Writer<'q, 's, J, T> {
         ensures fault { IfErr result (λ fault. fault ≡ NoMemory) }
     {
         self.make_room::<S, M>()?;
-        match self.kept.keep(spot_of(name)) {
-            Ok(()) => Ok(()),
-            Err(_) => Err(Fault::NoMemory),
-        }
+        self.kept.keep(spot_of(name));
+        Ok(())
     }
 
     /// Makes room for a value that is retired next, so that it is unlinked only if it can be retired. If 64 values are
@@ -180,6 +193,7 @@ impl<'q, 's, J: PostSet, T: Drop> Writer<'q, 's, J, T> {
             self.new.kept.lists.value.spots.items }
         ensures err { IsErr result → (self.new.kept.lists.value.spots.items ≡ self.old.kept.lists.value.spots.items)
             × (64 ≤ length self.old.kept.lists.value.spots.items) }
+        ensures room { IsOk result → vec_len self.new.kept.lists.value.spots < 64 }
         ensures fault { IfErr result (λ fault. fault ≡ NoMemory) }
     {
         if self.kept.len() < RETIRED_TOGETHER {

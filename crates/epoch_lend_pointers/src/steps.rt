@@ -1,10 +1,12 @@
 //! The steps that calls on a store are made of. Clauses tell by them what a call did.
-ghost use Rattle.std.specs.Prelude.{◌≡◌, ℕ, List, IsOk, IfOk, IfErr, IfSome};
+ghost use Rattle.std.specs.Prelude.{◌≡◌, ℕ, List, map, IsOk, IfOk, IfErr, IfSome};
 ghost use Rattle.epoch_lend.specs.Posts.{PostNames};
+ghost use Rattle.epoch_cells.specs.declared.cells.name.Name.{Name};
 ghost use Rattle.epoch_lend_pointers.specs.Steps.{StoreStep};
 ghost use Rattle.epoch_lend_pointers.specs.Steps.StoreStep.{Places, Lends, Waits};
 ghost use Rattle.epoch_cells.specs.declared.fault.Fault.TheVariants.{CellsFull};
 
+use crate::store::lent_cells::LentCells;
 use crate::store::retired::Ripening;
 use crate::store::{Store, Waiting};
 use epoch_cells::{Name, Refused};
@@ -18,6 +20,10 @@ pub trait StoreSteps<T: Drop> {
     /// nothing but the calls below shows it.
     ghost did: { List PostNames → ℕ → StoreStep T → Type 0 };
 
+    /// The cells of which the first ones have these logs lent this value, which they had under this name. If the type
+    /// is a parameter, nothing but [`StoreSteps::look_in`] shows it.
+    ghost lent: { List ℕ → Name → T → Type 0 };
+
     /// Shows the value in the room of one of the store's free cells, by one store.
     fn place_in<J: PostSet>(
         store: &Store<'_, J, T>,
@@ -27,13 +33,23 @@ pub trait StoreSteps<T: Drop> {
         ensures did { IfOk result (λ name. did J.posts store.now.number (Places name value)) }
         ensures full { IfErr result (λ refused. (refused.fault ≡ CellsFull) × (refused.value ≡ value)) };
 
-    /// Lends the value of this name, by one plain load.
+    /// Lends the value of this name, by plain loads.
     fn look<'g, J: PostSet>(
         store: &Store<'_, J, T>,
         name: Name,
         pinned: &'g Pinned<'_, J>,
     ) -> Option<&'g T>
         ensures did { IfSome result (λ value. did J.posts store.now.number (Lends name value.now)) };
+
+    /// Lends the value that these cells have under this name, by plain loads: for a structure that has the cells of its
+    /// store at hand, so that it needn't load where they are.
+    fn look_in<'g, J: PostSet>(
+        cells: &LentCells<J, T>,
+        name: Name,
+        pinned: &'g Pinned<'_, J>,
+    ) -> Option<&'g T>
+        ensures lent { IfSome result (λ value. lent (map (λ s. s.turns.log) cells.now.cells.first.slots.items)
+            name value.now) };
 
     /// Lets retired values wait in the store. They are handed back if there is no place for them.
     fn let_wait<'s, J: PostSet>(
@@ -50,6 +66,8 @@ pub struct InStores;
 
 impl<T: Drop> StoreSteps<T> for InStores {
     ghost did = { λ _ _ _. Unit {0} };
+
+    ghost lent = { λ _ _ _. Unit {0} };
 
     #[inline(always)]
     fn place_in<J: PostSet>(
@@ -75,6 +93,20 @@ impl<T: Drop> StoreSteps<T> for InStores {
         ensures did { IfSome result (λ value. Unit {0}) }
     {
         match store.cells.look(name, pinned) {
+            Some(sight) => Some(sight.value),
+            None => None,
+        }
+    }
+
+    #[inline(always)]
+    fn look_in<'g, J: PostSet>(
+        cells: &LentCells<J, T>,
+        name: Name,
+        pinned: &'g Pinned<'_, J>,
+    ) -> Option<&'g T>
+        ensures lent { IfSome result (λ value. Unit {0}) }
+    {
+        match cells.look(name, pinned) {
             Some(sight) => Some(sight.value),
             None => None,
         }

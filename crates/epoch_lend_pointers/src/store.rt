@@ -11,13 +11,14 @@ mod rooms;
 pub(crate) mod settling;
 pub mod spots;
 
-use crate::store::batch::SealedBatch;
+use crate::store::batch::{Batch, SealedBatch};
 use crate::store::lent_cells::LentCells;
-use crate::store::piles::Piles;
+use crate::store::piles::{Abandon, Piles};
 use crate::store::retired::Ripening;
 pub(crate) use crate::store::rooms::LentRooms;
 use epoch_cells::{Cells, Fault};
 use epoch_handles::Home;
+use epoch_lend::array::slot::SlotRemoval;
 use epoch_lend::domain::Domain;
 use epoch_lend::readers::posts::PostSet;
 use std::alloc::{AllocError, Global};
@@ -28,7 +29,6 @@ use std::sync::atomic::AtomicUsize;
 pub const ROOMS_TOGETHER: usize = 64;
 
 /// A batch of retired values that waits.
-#[derive(Drop)]
 pub(crate) enum Waiting<'s, J: PostSet, T> {
     /// It isn't marked: a guard from before it was retired may look for its values.
     Ripening(Ripening<'s, J, T>),
@@ -36,15 +36,31 @@ pub(crate) enum Waiting<'s, J: PostSet, T> {
     Sealed(SealedBatch<'s, J, T>),
 }
 
+/// What a writer has that is to wait in the store.
+pub(crate) enum Held<'s, J: PostSet, T> {
+    /// It has found no place there.
+    Batch(Waiting<'s, J, T>),
+    /// It was taken back alone, and a guard may have it.
+    Alone(SlotRemoval<'s, J, T>),
+}
+
+impl<'s, J: PostSet, T> Abandon for Waiting<'s, J, T> {
+    fn abandon(self) {
+        match self {
+            Waiting::Ripening(ripening) => ripening.into_retired().abandon(),
+            Waiting::Sealed(batch) => batch.abandon(),
+        }
+    }
+}
+
 /// A store of values of one type, in cells, which are lent to guards of its domain.
 ///
 /// Threads share it by `&`. Each of them places and retires values by a [`Writer`](crate::Writer) of its own, and loads
-/// pointers and gets values with any guard of the domain. [`Store::end`] drops the values that are left. Without it,
-/// they are never dropped, and their memory isn't freed.
+/// pointers and gets values with any guard of the domain. It must be given back, by [`Store::end`], which drops the
+/// values that are left.
 ///
 /// What waits is bounded by the cells alone. While a guard stays out, values that are retired keep their cells; once
 /// all cells are in use, no value is placed until that guard is given back or renewed.
-#[derive(Drop)]
 pub struct Store<'s, J: PostSet, T> {
     domain: &'s Domain<J>,
     pub(crate) cells: &'s LentCells<J, T>,
@@ -104,13 +120,15 @@ impl<'s, J: PostSet, T: Drop> Store<'s, J, T> {
     ) -> Result<Store<'s, J, T>, AllocError>
         ensures { IfOk result (λ store. store.domain.now ≡ domain.now) }
     {
+        let rooms = Piles::new(alloc)?;
+        let waiting = Piles::new(alloc)?;
         Ok(Store {
             domain,
             cells,
             number: domain.next_number(),
             none,
-            waiting: Piles::new(alloc)?,
-            rooms: Piles::new(alloc)?,
+            waiting,
+            rooms,
             together: together_of(cells.limit(), domain.sessions()),
             fresh: AtomicUsize::new(1),
             loose: AtomicUsize::new(0),
@@ -149,14 +167,26 @@ impl<'s, J: PostSet, T> Store<'s, J, T> {
     pub fn home(&self) -> Home<'_, T>
         ensures id { result.id ≡ self.now.number }
     {
-        Home {
-            cells: &self.none,
-            id: self.number,
-        }
+        Home::of(&self.none, self.number)
     }
 }
 
-impl<J: PostSet, T: Drop> Store<'_, J, T> {
+impl<'s, J: PostSet, T: Drop> Store<'s, J, T> {
+    // Lets this wait, too. It is handed back if there is no place for it, or no memory.
+    pub(crate) fn put_held(&self, held: Held<'s, J, T>) -> Result<(), Held<'s, J, T>> {
+        let waiting = match held {
+            Held::Batch(waiting) => waiting,
+            Held::Alone(removal) => match Batch::of(self.alloc, removal) {
+                Ok(batch) => Waiting::Sealed(batch.seal(self.domain.posts())),
+                Err(removal) => return Err(Held::Alone(removal)),
+            },
+        };
+        match self.waiting.put(waiting) {
+            Ok(()) => Ok(()),
+            Err(waiting) => Err(Held::Batch(waiting)),
+        }
+    }
+
     /// Returns how many batches of retired values wait for guards. Another thread may change this at once.
     pub fn waiting(&self) -> usize {
         self.waiting.len()

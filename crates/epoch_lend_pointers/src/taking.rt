@@ -4,15 +4,14 @@ ghost use Rattle.epoch_cells.specs.declared.fault.Fault.TheVariants.{GuardsOut, 
 ghost use Rattle.epoch_atomic.specs.Pointers.{IsUnder};
 ghost use Rattle.epoch_lend.specs.Growing.{IsOfCell, IsInFurther};
 
-use crate::store::Waiting;
-use crate::store::batch::Batch;
+use crate::store::Held;
 use crate::store::spots::spot_of;
 use crate::writer::Writer;
 use epoch_atomic::atomic::Shared;
 use epoch_cells::{Fault, Refused};
 use epoch_lend::array::cells::SlotTurn;
 use epoch_lend::array::growing::{CellName as Witness, FurtherBlock, OfBlock};
-use epoch_lend::array::slot::{Returned, SlotRemoval};
+use epoch_lend::array::slot::Returned;
 use epoch_lend::cells::turns::TurnName;
 use epoch_lend::readers::posts::PostSet;
 use epoch_lend::watch::Watch;
@@ -27,8 +26,8 @@ impl<'q, 's, J: PostSet, T: Drop> Writer<'q, 's, J, T> {
     ///
     /// `GuardsOut`: a guard of the domain is out, and may have the value. It stays in its cell, unless the pin began
     /// during this call: then no guard gets it any more, and it is dropped as soon as no guard may have it. `NoMemory`:
-    /// an allocation was refused, or no place to wait was seen, and the value stays in its cell. `StrangerPointer`: the
-    /// pointer is null or of another store, or its value is gone. The pointer is handed back.
+    /// what was to wait before found no place in the store, or no memory, and the value stays in its cell.
+    /// `StrangerPointer`: the pointer is null or of another store, or its value is gone. The pointer is handed back.
     #[inline(always)]
     pub fn take_back<'g>(&mut self, pointer: Shared<'g, T>) -> Result<T, Refused<Shared<'g, T>>>
         ensures store { self.new.store ≡ self.old.store }
@@ -115,36 +114,16 @@ impl<'q, 's, J: PostSet, T: Drop> Writer<'q, 's, J, T> {
         if !are_unpinned {
             return Err(Fault::GuardsOut);
         }
-        if self.spare.is_none() {
-            match Batch::with_capacity(self.alloc, 1) {
-                Ok(batch) => self.spare = Some(batch),
-                Err(_) => return Err(Fault::NoMemory),
-            }
-        }
         let Some(OfBlock { found, block }) = store.cells.array().mark(spot) else {
             return Err(Fault::StrangerPointer);
         };
         match found.take_back(posts) {
             Ok(returned) => Ok((returned, block)),
             Err(removal) => {
-                self.let_wait(removal);
+                self.hold(Held::Alone(removal));
+                let _ = self.put_held();
                 Err(Fault::GuardsOut)
             }
-        }
-    }
-
-    // Lets a marked value wait until no guard may have it.
-    #[cold]
-    #[inline(never)]
-    fn let_wait(&mut self, removal: SlotRemoval<'s, J, T>)
-        ensures store { self.new.store ≡ self.old.store }
-        ensures kept { self.new.kept ≡ self.old.kept }
-    {
-        if let Some(batch) = self.spare.take() {
-            let mut alone = batch;
-            let _ = alone.push(removal);
-            self.held = Some(Waiting::Sealed(alone.seal(self.store.domain().posts())));
-            let _ = self.put_held();
         }
     }
 }

@@ -4,10 +4,9 @@ ghost use Rattle.epoch_cells.specs.declared.fault.Fault.TheVariants.{NoMemory};
 ghost use Rattle.epoch_lend_pointers.specs.Steps.{HandsOverAll, StaysOrWaits};
 
 use crate::steps::{HasStoreSteps, StoreSteps};
-use crate::store::batch::Batch;
 use crate::store::retired::Retired;
 use crate::store::settling::LastTry;
-use crate::store::{LentRooms, Store, Waiting};
+use crate::store::{Held, LentRooms, Store};
 use epoch_cells::Fault;
 use epoch_lend::readers::posts::PostSet;
 use epoch_lend::steps::{HasPinSteps, PinSteps};
@@ -24,9 +23,8 @@ pub struct Writer<'q, 's, J: PostSet, T> {
     pub(crate) kept: Retired<'s, J, T>,
     // Free cells, for the next values.
     pub(crate) rooms: LentRooms<'s, J, T>,
-    // A batch for a value that is taken back alone, and has to wait; and one that found no place to wait in the store.
-    pub(crate) spare: Option<Batch<'s, J, T>>,
-    pub(crate) held: Option<Waiting<'s, J, T>>,
+    // What found no place to wait in the store.
+    pub(crate) held: Option<Held<'s, J, T>>,
     pub(crate) last_try: LastTry,
     pub(crate) alloc: Global,
 }
@@ -61,7 +59,6 @@ impl<'q, 's, J: PostSet, T: Drop> Writer<'q, 's, J, T> {
                 store,
                 kept,
                 rooms: LentRooms::none(alloc),
-                spare: None,
                 held: None,
                 last_try: LastTry::none(),
                 alloc,
@@ -90,18 +87,22 @@ impl<'q, 's, J: PostSet, T: Drop> Writer<'q, 's, J, T> {
         if let Err(fault) = staying.flush() {
             return Err((staying, fault));
         }
-        if staying.held.is_some() {
-            return Err((staying, Fault::NoMemory));
+        if let Err(fault) = staying.put_held() {
+            return Err((staying, fault));
         }
         let Writer {
             store,
-            kept: _,
+            kept,
             rooms,
-            spare: _,
-            held: _,
+            held,
             last_try: _,
             alloc: _,
         } = staying;
+        kept.finish();
+        match held {
+            None => {}
+            Some(_) => unreachable!(),
+        }
         store.leave_rooms(rooms);
         Ok(())
     }

@@ -6,7 +6,7 @@ pub mod queue;
 mod root;
 pub mod stack;
 
-pub use epoch_lend_nodes::{Gathers, LentNode, ListNode};
+pub use epoch_lend_nodes::{Gathers, LentNode, Link, ListNode};
 pub use owned::{MovesValue, OwnedNode};
 pub use queue::LendingQueue;
 pub use stack::LendingStack;

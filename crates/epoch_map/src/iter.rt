@@ -3,12 +3,11 @@ ghost use Rattle.std.specs.Iterator.{at_most};
 
 use crate::map::LendingMap;
 use crate::node::MapNode;
-use epoch_atomic::atomic::Atomic;
 use epoch_cells::Name;
 use epoch_lend::readers::posts::PostSet;
 use epoch_lend::session::LendingGuard;
+use epoch_lend_nodes::Link;
 use epoch_lend_pointers::Store;
-use std::sync::atomic::Ordering::SeqCst;
 
 /// The entries of a map, bucket by bucket, and in each in the order of their keys: [`LendingMap::iter`]. Each is lent
 /// for as long as the guard is borrowed. It writes nothing that threads share.
@@ -17,7 +16,7 @@ use std::sync::atomic::Ordering::SeqCst;
 /// may be given or not.
 #[derive(Drop)]
 pub struct MapIter<'g, 'd, 's, J: PostSet, N> {
-    buckets: &'g [Atomic<N>],
+    buckets: &'g [Link<N>],
     store: &'g Store<'s, J, N>,
     guard: &'g LendingGuard<'d, J>,
     at: At,
@@ -35,7 +34,7 @@ struct At {
 impl<'g, 'd, 's, J: PostSet, N: MapNode> MapIter<'g, 'd, 's, J, N> {
     /// Goes over the nodes of these buckets, which are in this store.
     pub(crate) fn of(
-        buckets: &'g [Atomic<N>],
+        buckets: &'g [Link<N>],
         store: &'g Store<'s, J, N>,
         guard: &'g LendingGuard<'d, J>,
     ) -> MapIter<'g, 'd, 's, J, N> {
@@ -71,7 +70,7 @@ impl<'g, 'd, 's, J: PostSet, N: MapNode> Iterator for MapIter<'g, 'd, 's, J, N> 
 
 // The first entry from there on, and where it goes on behind it.
 fn entry_from<'g, J: PostSet, N: MapNode>(
-    buckets: &[Atomic<N>],
+    buckets: &[Link<N>],
     store: &Store<'_, J, N>,
     guard: &'g LendingGuard<'_, J>,
     at: At,
@@ -82,7 +81,7 @@ fn entry_from<'g, J: PostSet, N: MapNode>(
             return Some((node, At { next, bucket }));
         }
         let first = buckets.get(bucket)?;
-        next = first.load_at(SeqCst, store.home()).name();
+        next = first.load(store).name();
     }
     None
 }
@@ -96,7 +95,7 @@ fn entry_in_bucket<'g, J: PostSet, N: MapNode>(
     let mut next = next;
     for _ in 0..u64::MAX {
         let node = store.get_named(next?, guard)?;
-        let after = node.next().load_at(SeqCst, store.home());
+        let after = node.next().load(store);
         next = after.name();
         // A node whose entry was removed has a pointer with tag 1, and leads on all the same.
         if after.tag() == 0 {

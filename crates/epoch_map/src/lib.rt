@@ -9,7 +9,7 @@ mod node;
 mod seeks;
 mod spots;
 
-pub use epoch_lend_nodes::{Gathers, LentNode};
+pub use epoch_lend_nodes::{Gathers, LentNode, Link};
 pub use epoch_structure_laws::map::{MapAnswer, MapWork};
 pub use growing::{GrowingIter, GrowingMap};
 pub use iter::MapIter;

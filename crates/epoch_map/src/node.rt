@@ -4,9 +4,9 @@ ghost use Rattle.std.specs.declared.cmp.Ordering.TheVariants.{Equal};
 ghost use Rattle.std.proofs.Common.{lit≤, rules};
 ghost use Rattle.epoch_map.specs.Entries.{lent_key, lent_value};
 
-use epoch_atomic::atomic::{Atomic, Pointable};
+use epoch_atomic::atomic::Pointable;
 use epoch_cells::Fault;
-use epoch_lend_nodes::LentNode;
+use epoch_lend_nodes::{LentNode, Link};
 use std::alloc::Global;
 
 /// Keys of a map: they have an order, and each has a number that chooses its bucket.
@@ -64,7 +64,7 @@ pub trait MapNode: LentNode {
 #[derive(Drop)]
 pub struct LentEntry<K, V> {
     key: K,
-    next: Atomic<LentEntry<K, V>>,
+    next: Link<LentEntry<K, V>>,
     value: V,
 }
 
@@ -75,7 +75,7 @@ impl<K: Drop, V: Drop> LentEntry<K, V> {
         // An entry has the key and the value that it was made with.
         ensures value { lent_value result ≡ value }
     {
-        let next = Atomic::null();
+        let next = Link::null();
         LentEntry { key, next, value }
     }
 
@@ -124,12 +124,12 @@ impl<K, V> Pointable for LentEntry<K, V> {
 
 impl<K: Drop, V: Drop> LentNode for LentEntry<K, V> {
     #[inline(always)]
-    fn next(&self) -> &Atomic<LentEntry<K, V>> {
+    fn next(&self) -> &Link<LentEntry<K, V>> {
         &self.next
     }
 
     #[inline(always)]
-    fn set_next(&mut self, next: Atomic<LentEntry<K, V>>) {
+    fn set_next(&mut self, next: Link<LentEntry<K, V>>) {
         self.next = next;
     }
 }

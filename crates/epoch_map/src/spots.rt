@@ -1,5 +1,5 @@
 //! The buckets of a map that threads share, and its nodes, which are lent.
-ghost use Rattle.std.specs.Prelude.{◌≡◌, ℕ, Option, Some, None, IfSome, IfOk, IfErr};
+ghost use Rattle.std.specs.Prelude.{◌≡◌, ℕ, map, Option, Some, None, IfSome, IfOk, IfErr};
 ghost use Rattle.epoch_cells.specs.declared.fault.Fault.TheVariants.{CellsFull};
 ghost use Rattle.epoch_laws.specs.declared.heap.access.Access.TheVariants.{Place, Read, Point};
 ghost use Rattle.epoch_laws.specs.declared.heap.access.AccessAnswer.TheVariants.{Value, Pointer, Absent};
@@ -12,19 +12,18 @@ ghost use Rattle.epoch_structure_laws.specs.Plans.{ptr_to};
 ghost use Rattle.epoch_structure_calls.specs.Paths.{IsTold, reply_given};
 
 use crate::node::MapNode;
-use epoch_atomic::atomic::Atomic;
 use epoch_cells::{Fault, Name};
 use epoch_handles::Home;
 use epoch_laws::heap::{Access, AccessAnswer, Change, Ptr, Spot};
 use epoch_lend::array::room::LentRoom;
 use epoch_lend::readers::posts::PostSet;
 use epoch_lend::readers::reader::Pinned;
-use epoch_lend_nodes::{placed_in, ptr_of, write_at};
+use epoch_lend_nodes::{Changing, Link, placed_in, ptr_of, write_at};
 use epoch_lend_pointers::LentCells;
+use epoch_lend_pointers::steps::{HasStoreSteps, StoreSteps};
 use epoch_structure_calls::map::{MapSpots, coded};
 use epoch_structure_calls::phases::Spots;
 use std::cmp::Ordering;
-use std::sync::atomic::Ordering::SeqCst;
 
 /// The nodes of one call, and the key that it seeks.
 #[derive(Drop)]
@@ -43,10 +42,12 @@ pub struct MapCallNodes<'g, 'k, N, K> {
 /// is sought, and the node itself is lent.
 #[derive(Drop)]
 pub struct LentSpots<'g, 'k, 'd, 's, J: PostSet, N: MapNode> {
-    buckets: &'g [Atomic<N>],
+    buckets: &'g [Link<N>],
     cells: &'g LentCells<J, N>,
     // The home of the map's pointers.
     home: Home<'g, N>,
+    // `None`: the call only reads.
+    changing: Option<Changing<'g, N>>,
     pinned: &'g Pinned<'d, J>,
     nodes: MapCallNodes<'g, 'k, N, N::Key>,
     // A free cell for the node that the call places.
@@ -57,29 +58,39 @@ pub struct LentSpots<'g, 'k, 'd, 's, J: PostSet, N: MapNode> {
 // isn't inlined if it holds these, too, and then a walk that only loads doesn't know its accesses.
 #[inline(never)]
 fn write_out_of_line<N: MapNode>(
-    at: &Atomic<N>,
+    at: &Link<N>,
     change: Change,
-    home: Home<'_, N>,
+    changing: Option<Changing<'_, N>>,
 ) -> AccessAnswer {
-    write_at(at, change, home)
+    match changing {
+        Some(changing) => write_at(at.to_change(changing), change, changing.home()),
+        None => AccessAnswer::Absent,
+    }
 }
 
 // Loads, stores or exchanges the pointer there. The phases of a map ask for no other change.
 #[inline(always)]
-fn change_at<N: MapNode>(at: &Atomic<N>, change: Change, home: Home<'_, N>) -> AccessAnswer {
+fn change_at<N: MapNode>(
+    at: &Link<N>,
+    change: Change,
+    home: Home<'_, N>,
+    changing: Option<Changing<'_, N>>,
+) -> AccessAnswer {
     match change {
-        Change::Load => AccessAnswer::Pointer(ptr_of(at.load_at(SeqCst, home))),
-        _ => write_out_of_line(at, change, home),
+        Change::Load => AccessAnswer::Pointer(ptr_of(at.load_at(home))),
+        _ => write_out_of_line(at, change, changing),
     }
 }
 
 impl<'g, 'k, 'd, 's, J: PostSet, N: MapNode> LentSpots<'g, 'k, 'd, 's, J, N> {
-    /// Makes the spots of one call under this pin, which seeks this key. The nodes are in these cells.
+    /// Makes the spots of one call under this pin, which seeks this key. The nodes are in these cells, which are those
+    /// of the store. Unless it is permitted to change pointers, the call only reads.
     #[inline(always)]
     pub fn new(
-        buckets: &'g [Atomic<N>],
+        buckets: &'g [Link<N>],
         cells: &'g LentCells<J, N>,
         home: Home<'g, N>,
+        changing: Option<Changing<'g, N>>,
         pinned: &'g Pinned<'d, J>,
         key: &'k N::Key,
     ) -> LentSpots<'g, 'k, 'd, 's, J, N>
@@ -95,6 +106,7 @@ impl<'g, 'k, 'd, 's, J: PostSet, N: MapNode> LentSpots<'g, 'k, 'd, 's, J, N> {
             buckets,
             cells,
             home,
+            changing,
             pinned,
             nodes,
             room: None,
@@ -110,6 +122,7 @@ impl<'g, 'k, 'd, 's, J: PostSet, N: MapNode> LentSpots<'g, 'k, 'd, 's, J, N> {
             buckets: _,
             cells: _,
             home: _,
+            changing: _,
             pinned: _,
             nodes,
             room,
@@ -119,11 +132,13 @@ impl<'g, 'k, 'd, 's, J: PostSet, N: MapNode> LentSpots<'g, 'k, 'd, 's, J, N> {
 
     // The node of this name, which is lent for as long as the pin is borrowed.
     #[inline(always)]
-    fn node_of(&self, name: Name) -> Option<&'g N> {
-        match self.cells.look(name, self.pinned) {
-            Some(sight) => Some(sight.value),
-            None => None,
-        }
+    fn node_of<M: StoreSteps<N>>(&self, name: Name) -> Option<&'g N>
+    where
+        N: HasStoreSteps<M>,
+        ensures { IfSome result (λ node. M.lent (map (λ s. s.turns.log) self.now.cells.now.cells.first.slots.items)
+            name node.now) }
+    {
+        M::look_in(self.cells, name, self.pinned)
     }
 
     // Changes or loads a root, which is a bucket's, or the pointer in a node, which has one. `Absent`: there is no such
@@ -138,14 +153,19 @@ impl<'g, 'k, 'd, 's, J: PostSet, N: MapNode> LentSpots<'g, 'k, 'd, 's, J, N> {
             },
         };
         match at {
-            Some(at) => change_at(at, change, self.home),
+            Some(at) => change_at(at, change, self.home, self.changing),
             None => AccessAnswer::Absent,
         }
     }
 
     // Reads the node of this name, and compares its key with the one that is sought. `None`: it isn't lent.
     #[inline(always)]
-    fn compare(&mut self, name: Name) -> Option<(Ordering, &'g N)>
+    fn compare<M: StoreSteps<N>>(&mut self, name: Name) -> Option<(Ordering, &'g N)>
+    where
+        N: HasStoreSteps<M>,
+        // A node that a walk along a bucket compares is the one that the map's cells lent under its name.
+        ensures lent { IfSome result
+            (λ read. M.lent (map (λ s. s.turns.log) self.old.cells.now.cells.first.slots.items) name read.1.now) }
         ensures some { IfSome result
             (λ read. ReadsNode N.key N.Key.cmp self.old.nodes (coded read.0) self.new.nodes) }
         ensures none { result ≡ None → self.new ≡ self.old }
@@ -183,9 +203,9 @@ impl<'g: 'k, 'k, 'd, 's, J: PostSet, N: MapNode> LentSpots<'g, 'k, 'd, 's, J, N>
     /// key of its node, once that is placed.
     #[inline(always)]
     pub fn with_node(
-        buckets: &'g [Atomic<N>],
+        buckets: &'g [Link<N>],
         cells: &'g LentCells<J, N>,
-        home: Home<'g, N>,
+        changing: Changing<'g, N>,
         pinned: &'g Pinned<'d, J>,
         node: N,
         room: Option<LentRoom<'s, J, N>>,
@@ -201,7 +221,8 @@ impl<'g: 'k, 'k, 'd, 's, J: PostSet, N: MapNode> LentSpots<'g, 'k, 'd, 's, J, N>
         LentSpots {
             buckets,
             cells,
-            home,
+            home: changing.home(),
+            changing: Some(changing),
             pinned,
             nodes,
             room,
@@ -245,7 +266,7 @@ impl<'g: 'k, 'k, 'd, 's, J: PostSet, N: MapNode> MapSpots for LentSpots<'g, 'k, 
     #[inline(always)]
     fn first(&mut self, bucket: u64) -> Option<Ptr> {
         match self.buckets.get(bucket as usize) {
-            Some(at) => Some(ptr_of(at.load_at(SeqCst, self.home))),
+            Some(at) => Some(ptr_of(at.load_at(self.home))),
             None => None,
         }
     }
@@ -261,7 +282,7 @@ impl<'g: 'k, 'k, 'd, 's, J: PostSet, N: MapNode> MapSpots for LentSpots<'g, 'k, 
 
     #[inline(always)]
     fn next(&mut self, _node: Name, lent: &'g N) -> Option<Ptr> {
-        Some(ptr_of(lent.next().load_at(SeqCst, self.home)))
+        Some(ptr_of(lent.next().load_at(self.home)))
     }
 }
 

@@ -217,7 +217,7 @@ fn grow_over<R: Clock + Print + Threads + Wait + Sync, J: PostSet + Send + Sync>
     let mut cells = cells_in(alloc, 0, count, &domain)?;
     let store = store_of(alloc, &domain, &mut cells)?;
     let done = grow_in(rt, alloc, plan, &store);
-    let _ = store.end(alloc);
+    let _ = store.end();
     done
 }
 

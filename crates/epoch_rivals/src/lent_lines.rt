@@ -234,7 +234,7 @@ fn rounds_over<R: Clock + Threads + Wait + Sync, J: PostSet + Send + Sync>(
     let mut cells = cells_in(alloc, CELLS, CELLS, &domain)?;
     let store = store_of(alloc, &domain, &mut cells)?;
     let done = rounds_in(rt, alloc, plan, row, &store, times);
-    let _ = store.end(alloc);
+    let _ = store.end();
     Ok(done)
 }
 

@@ -189,7 +189,7 @@ fn rounds_over<R: Clock + Threads + Wait + Sync, J: PostSet + Send + Sync>(
             rt, alloc, plan, &store, times,
         ),
     };
-    let _ = store.end(alloc);
+    let _ = store.end();
     Ok(done)
 }
 

@@ -210,7 +210,7 @@ fn rounds_over<
     let mut cells = cells_in::<J, N>(alloc, count, count, &domain)?;
     let store = store_of(alloc, &domain, &mut cells)?;
     let done = rounds_in(rt, alloc, plan, row, &store, times);
-    let _ = store.end(alloc);
+    let _ = store.end();
     Ok(done)
 }
 

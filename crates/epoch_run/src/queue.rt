@@ -41,7 +41,7 @@ fn run_over<R: Threads + Wait + Sync, J: PostSet + Send + Sync>(
     let store = Store::new(alloc, &domain, &mut cells).ok()?;
     let tally = Tally::new();
     share_queue(rt, alloc, &store, size, &tally);
-    let _ = store.end(alloc);
+    let _ = store.end();
     tally.popped()
 }
 

@@ -109,7 +109,7 @@ where
     let mut cells = LentCells::<J, N>::new(alloc, MOST_SLOT, &domain)?;
     let store = Store::new(alloc, &domain, &mut cells)?;
     let done = share_in(rt, alloc, &store, threads, capacity, crew);
-    let _ = store.end(alloc);
+    let _ = store.end();
     done
 }
 

@@ -54,7 +54,7 @@ where
     let mut cells = LentCells::<J, N>::new(alloc, cells_for(values, threads), &domain)?;
     let store = Store::new(alloc, &domain, &mut cells)?;
     let done = share_in(rt, alloc, &store, threads, crew);
-    let _ = store.end(alloc);
+    let _ = store.end();
     done
 }
 

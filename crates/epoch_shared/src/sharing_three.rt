@@ -79,7 +79,7 @@ where
     let mut cells = LentCells::<J, N>::new(alloc, cells_for(1, sizes.threads), &domain)?;
     let values = Store::new(alloc, &domain, &mut cells)?;
     let done = with_entries::<R, J, N, E, M, C>(rt, alloc, &values, sizes, first, crew);
-    let _ = values.end(alloc);
+    let _ = values.end();
     done
 }
 
@@ -108,7 +108,7 @@ where
     let mut cells = LentCells::<J, E>::new(alloc, MOST_SLOT, domain)?;
     let entries = Store::new(alloc, domain, &mut cells)?;
     let done = with_messages(rt, alloc, values, &entries, sizes, first, crew);
-    let _ = entries.end(alloc);
+    let _ = entries.end();
     done
 }
 
@@ -139,7 +139,7 @@ where
     let mut cells = LentCells::<J, M>::new(alloc, cells_for(nodes, sizes.threads), domain)?;
     let messages = Store::new(alloc, domain, &mut cells)?;
     let done = share_in(rt, alloc, values, entries, &messages, sizes, first, crew);
-    let _ = messages.end(alloc);
+    let _ = messages.end();
     done
 }
 

@@ -33,7 +33,7 @@ fn begin<J: PostSet + Send + Sync, R: Abort + Threads + Wait + Sync>(
     compare(rt, alloc, &store, &map);
     race(rt, alloc, &store, &map);
     drop(map);
-    want(rt, "how many nodes are left", store.end(alloc), 0);
+    want(rt, "how many nodes are left", store.end(), 0);
 }
 
 fn play<R: Abort + Threads + Wait + Sync>(rt: &R, alloc: Global) {

@@ -2,6 +2,7 @@
 mod calls;
 mod config;
 mod counted;
+mod deque;
 mod owners;
 mod service;
 mod sorted_list;

@@ -7,7 +7,7 @@ use epoch_lend::array::cells::SlotTurn;
 use epoch_lend::array::growing::GrowingCells;
 use epoch_lend::readers::posts::{Made, PostSet, Posts};
 use epoch_lend::readers::reader::Pinned;
-use epoch_lend_pointers::store::batch::Batch;
+use epoch_lend_pointers::store::batch::{Batch, ClearBatch};
 use std::alloc::{AllocError, Global};
 use std::marker::Brand;
 use std::sync::Wait;
@@ -121,18 +121,23 @@ fn take_bag_back<J: PostSet>(bag: Batch<'_, J, Probe>, posts: &Posts<J>, course:
         course.epoch.fetch_add(2, SeqCst);
         match kept.take_back(posts) {
             Ok(clear) => {
-                let mut rest = clear;
-                for _ in 0..TOGETHER {
-                    if let Some((probe, _)) = rest.next() {
-                        course.tell(Some(&probe));
-                    }
-                }
+                tell_all(clear, course);
                 return;
             }
             Err(again) => kept = again,
         }
         thread::yield_now();
     }
+    kept.abandon();
+}
+
+/// Counts what came back.
+fn tell_all<J: PostSet>(clear: ClearBatch<'_, J, Probe>, course: &Course) {
+    let mut rest = clear;
+    while let Some((probe, _)) = rest.next() {
+        course.tell(Some(&probe));
+    }
+    rest.finish();
 }
 
 /// Marks the value at this spot, and puts it into the batch.
@@ -141,9 +146,12 @@ fn retire<'c, J: PostSet>(
     bag: &mut Batch<'c, J, Probe>,
     old: Option<SlotTurn>,
 ) {
-    if let Some(spot) = old {
+    let Some(spot) = old else {
+        return;
+    };
+    if bag.has_room() {
         if let Some(marked) = cells.mark(spot) {
-            let _ = bag.push(marked.found);
+            bag.push(marked.found);
         }
     }
 }

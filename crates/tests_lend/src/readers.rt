@@ -67,10 +67,20 @@ fn marked<'c, J: PostSet>(
     cells: &'c GrowingCells<J, u64>,
     spot: SlotTurn,
 ) -> Option<SealedBatch<'c, J, u64>> {
-    let made = Batch::with_capacity(alloc, 1).ok()?;
-    let mut bag = made;
-    let _ = bag.push(cells.mark(spot)?.found);
-    Some(bag.seal(posts))
+    match Batch::of(alloc, cells.mark(spot)?.found) {
+        Ok(bag) => Some(bag.seal(posts)),
+        Err(removal) => {
+            removal.abandon();
+            None
+        }
+    }
+}
+
+/// Ends a bag that didn't come back, and has its value left where it is.
+fn give_up<J: PostSet>(kept: Option<SealedBatch<'_, J, u64>>) {
+    if let Some(bag) = kept {
+        bag.abandon();
+    }
 }
 
 /// What comes back at this try, or 0 with what has to be tried again.
@@ -84,10 +94,12 @@ fn tried<'c, J: PostSet>(
     match sealed.take_back(posts) {
         Ok(clear) => {
             let mut rest = clear;
-            match rest.next() {
-                Some((value, _)) => (value, None),
-                None => (0, None),
+            let mut last = 0;
+            while let Some((value, _)) = rest.next() {
+                last = value;
             }
+            rest.finish();
+            (last, None)
         }
         Err(again) => (0, Some(again)),
     }
@@ -100,7 +112,9 @@ fn taken<J: PostSet>(
     cells: &GrowingCells<J, u64>,
     spot: SlotTurn,
 ) -> u64 {
-    tried(marked(alloc, posts, cells, spot), posts).0
+    let (value, kept) = tried(marked(alloc, posts, cells, spot), posts);
+    give_up(kept);
+    value
 }
 
 /// Whether a reader can be registered now.
@@ -179,7 +193,8 @@ fn holds_a_bag_back<J: PostSet>(
         0,
     );
     pinned.unpin().release();
-    let (late, _) = tried(kept, posts);
+    let (late, left) = tried(kept, posts);
+    give_up(left);
     want(rt, "the bag comes back after the unpin", late, 8);
 }
 

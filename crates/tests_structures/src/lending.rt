@@ -63,8 +63,8 @@ where
         let store = store_of(rt, alloc, domain, &mut cells);
         let others = store_of(rt, alloc, domain, &mut few);
         scene.act(rt, alloc, &store, &others);
-        want(rt, "nodes of the other store", others.end(alloc), 0);
-        want(rt, "how many nodes are left", store.end(alloc), left);
+        want(rt, "nodes of the other store", others.end(), 0);
+        want(rt, "how many nodes are left", store.end(), left);
     }
 }
 

@@ -123,7 +123,7 @@ impl<'g, T: Pointable + Drop> Shared<'g, T> {
         ensures named { IfSome result (λ reading. Some reading.name ≡ self.now.name) }
     {
         let home = self.home?;
-        home.cells.read(self.name?)
+        home.read(self.name?)
     }
 
     /// Does what [`Shared::deref`] does.
@@ -142,7 +142,7 @@ impl<'g, T: Pointable + Drop> Shared<'g, T> {
         ensures same { self.new ≡ self.old }
     {
         let home = self.home?;
-        home.cells.write(self.name?)
+        home.write(self.name?)
     }
 
     /// Takes the value out of its cell, with the pointer's tag. From then on every pointer of this name finds no value.
@@ -154,7 +154,7 @@ impl<'g, T: Pointable + Drop> Shared<'g, T> {
         ensures null { IsNone self.entry.name → IsNone result }
     {
         let home = self.home?;
-        let value = home.cells.take(self.name?)?;
+        let value = home.take(self.name?)?;
         Some(Owned {
             value,
             tag: self.tag,

@@ -1,20 +1,18 @@
 //! Collections: all words are scanned, bags are taken out of the shared places, and their jobs are called.
-ghost use Rattle.std.specs.Prelude.{◌≡◌, ◌≢◌, ℕ, ◌<◌, ◌^◌, ◌∷◌, true, false, Some, length, IfSome, IfNone};
-ghost use Rattle.epoch_bags.specs.Jobs.{IsCalled};
-ghost use Rattle.epoch_bags.specs.declared.job.Job.{Job};
+ghost use Rattle.std.specs.Prelude.{◌≡◌, ℕ, ◌<◌, ◌^◌, IfSome, IfNone};
 ghost use Rattle.epoch_tables.specs.SharedPlaces.{IsPlaceSeatOf as IsAt};
 ghost use Rattle.epoch_tables.specs.SharedSteps.{RestsAt};
-ghost use Rattle.epoch_machine.specs.Machine.{after_job, asks, gives, rest};
+ghost use Rattle.epoch_machine.specs.Machine.{after_job};
 ghost use Rattle.epoch_handles.specs.Handles.{IsSeated, IsPinned, Scans, CallsHand, HasTaken, TakesBags, Collects};
-ghost use Rattle.epoch_machine.specs.declared.machine.Ask.TheVariants.{CallJob};
 ghost use Rattle.epoch_machine.specs.declared.machine.Stage.TheVariants.{LoadScan, Take};
 
+use crate::home::call_next;
 use crate::local::Local;
 use crate::rooms::OwnRooms;
 use epoch_bags::queue::places::is_expired_word;
-use epoch_bags::{Epoch, GREATEST_EPOCH, Job, Remove, Run, TakeCursor, TakeStep};
-use epoch_cells::{Cells, Freed, Rooms};
-use epoch_machine::{Machine, holds_up};
+use epoch_bags::{Epoch, GREATEST_EPOCH, Run, TakeCursor, TakeStep};
+use epoch_cells::{Freed, Rooms};
+use epoch_machine::holds_up;
 
 impl<'c, T, W> Local<'c, T, W> {
     /// Scans the words in a plain loop, and advances the epoch where none holds it up. Returns the epoch for which bags
@@ -46,40 +44,6 @@ impl<'c, T, W> Local<'c, T, W> {
     }
 }
 
-/// Calls the next job of the bag in hand. Returns whether there was one.
-///
-/// A removal is told where it lies, and called by its name: a job that is taken out and then told apart goes through
-/// memory several times.
-#[inline(always)]
-fn call_next<'a, T: Drop, W: Run>(
-    machine: &mut Machine<Job<W>>,
-    cells: &'a Cells<T>,
-    freed: &mut Freed<'_, 'a, T>,
-) -> bool
-    ensures called { result ≡ true → (job : Job W) × IsCalled W.done W.Removing.tried job
-        × (machine.old.hand ≡ job ∷ rest machine.old.hand) }
-    ensures fewer { result ≡ true → length machine.new.hand < length machine.old.hand }
-    ensures none { result ≡ false → asks machine.old ≢ Some CallJob }
-    ensures after { machine.new ≡ gives machine.old machine.old.stage (rest machine.old.hand) }
-{
-    let Some(next) = machine.next_job() else {
-        // For the prover: its clause tells that nothing is done then.
-        let _ = machine.give();
-        return false;
-    };
-    if let Job::Remove(name) = next {
-        let name = *name;
-        let _ = machine.give();
-        let _ = W::Removing::remove_near(cells, freed, name);
-        return true;
-    }
-    let Some(job) = machine.give() else {
-        return false;
-    };
-    let _ = job.call_near(cells, freed);
-    true
-}
-
 impl<'c, T: Drop, W: Run> Local<'c, T, W> {
     /// Calls what is left of the bag in hand, the oldest job first. Slots that removals give free are kept among these
     /// rooms, as many as they take.
@@ -91,7 +55,7 @@ impl<'c, T: Drop, W: Run> Local<'c, T, W> {
             → CallsHand W.done W.Removing.tried self.old expiry taken self.new }
     {
         let mut freed = Freed::none(self.position, rooms);
-        while call_next(&mut self.machine, &self.collector.cells, &mut freed) {}
+        while call_next(&mut self.machine, self.collector, &mut freed) {}
         self.collector.cells.note_freed(freed);
     }
 

@@ -11,8 +11,7 @@ use crate::cells::word::{shown_word, vacant_word};
 use crate::readers::posts::PostSet;
 use crate::readers::reader::Pinned;
 
-/// The place of a free cell: its value was taken out, or it had none and was claimed. No other caller can use it until
-/// its owner gives it up.
+/// The place of a free cell, which was emptied or claimed. No other caller can use it until its owner gives it up.
 ///
 /// [`LentRoom::place`] shows the owner's next value there, and [`LentRoom::release`] leaves the cell to all callers. A
 /// cell whose room is dropped takes no value any more.

@@ -5,15 +5,14 @@ ghost use Rattle.epoch_lend.specs.Blocks.{places_in};
 
 use crate::cells::block::Block;
 use crate::cells::sight::Sight;
-use crate::cells::turns::{Place, TurnClaim, Turns};
+use crate::cells::turns::{Place, TurnClaim, Turns, abandon};
 use crate::cells::word::{claimed_word, removed_word, shown_word, vacant_word};
 use crate::post::{Pin, Post, PostGuard};
 use crate::watch::Watch;
 use std::alloc::{AllocError, Global};
 use std::slice;
 
-/// A place for one value. It has a guard of its own, which is out as long as the place is there: so whoever borrows the
-/// place may look at its value.
+/// A place for one value. Its own guard is out as long as the place is there, so whoever borrows it may look at it.
 #[derive(Drop)]
 pub struct OncePlace<T> {
     turns: Turns<T>,
@@ -109,6 +108,7 @@ impl<T> OncePlace<T> {
         let marked = watch.add(marked);
         let (is_clear, mut watch) = watch.unpinned(slice::from_ref(&post));
         if !is_clear {
+            abandon(marked, vacancy);
             return None;
         }
         let (claim, value) = vacancy.reclaim(watch.collect(marked)).take();
@@ -158,8 +158,7 @@ impl<T> SetOnce<T> {
         self.places[index].get(self.place_of(index))
     }
 
-    /// Sets the value of this place, by one exchange and one store. It is handed back if another caller sets one or has
-    /// set one, or if there is no such place.
+    /// Sets the value of this place, by an exchange and a store. It is handed back if one is there, or no such place.
     pub fn set(&self, index: usize, value: T) -> Result<(), T>
         ensures { IfErr result (λ back. back ≡ value) }
     {

@@ -9,7 +9,7 @@ ghost use Rattle.epoch_lend.specs.declared.cells.turns.TheConstants.{GREATEST_TU
 
 use crate::array::cells::LendingCells;
 use crate::array::room::LentRoom;
-use crate::cells::turns::{GREATEST_TURN, Place, TurnClaim, TurnName, Turns, Vacancy};
+use crate::cells::turns::{GREATEST_TURN, Place, TurnClaim, TurnName, Turns, Vacancy, abandon};
 use crate::cells::word::{claimed_word, removed_word, shown_word, turn_of, vacant_word};
 use crate::lending::Marked;
 use crate::readers::posts::{Of, PostSet, Posts};
@@ -26,7 +26,9 @@ pub struct LentSlot<J: PostSet, T> {
 }
 
 /// A value that a mark took out of its slot, with what was lent of it, and its name.
-#[derive(Drop)]
+///
+/// It can't be dropped: its value comes back, by [`SlotRemoval::take`] or [`SlotRemoval::take_back`], and only once; or
+/// it stays where it is after an end, by [`SlotRemoval::abandon`].
 pub struct SlotRemoval<'c, J: PostSet, T> {
     cells: &'c LendingCells<J, T>,
     slot: &'c LentSlot<J, T>,
@@ -170,8 +172,7 @@ impl<'c, J: PostSet, T> SlotRemoval<'c, J, T> {
         removal
     }
 
-    /// Looks at each post once. If no reader is pinned, each guard that the value was lent to is over, and it comes
-    /// back. Otherwise the removal does.
+    /// Looks at each post once. If none is pinned, no guard has the value, and it comes back. Else the removal does.
     pub fn take_back(self, posts: &Posts<J>) -> Result<Returned<'c, J, T>, SlotRemoval<'c, J, T>>
         // A removal gives its value back alone only if each post was seen unpinned after the mark. Otherwise the
         // removal comes back. What comes back has the removal's name.
@@ -195,21 +196,42 @@ impl<'c, J: PostSet, T> SlotRemoval<'c, J, T> {
         ensures name { result.name ≡ self.entry.name }
         ensures same { watch.new ≡ watch.old }
     {
-        let all = watch.collect(self.marked);
-        let (claim, value) = self.vacancy.reclaim(all).take();
+        let SlotRemoval {
+            cells,
+            slot,
+            index,
+            position,
+            marked,
+            vacancy,
+            name,
+            turn,
+        } = self;
+        let all = watch.collect(marked);
+        let (claim, value) = vacancy.reclaim(all).take();
         let room = LentRoom {
-            cells: self.cells,
-            slot: self.slot,
-            index: self.index,
-            position: self.position,
-            next_turn: self.turn + 1,
+            cells,
+            slot,
+            index,
+            position,
+            next_turn: turn + 1,
             claim,
         };
-        Returned {
-            value,
-            name: self.name,
-            room,
-        }
+        Returned { value, name, room }
+    }
+
+    /// Gives the value up where it is: nothing drops it any more. Only an end of a store does this.
+    pub fn abandon(self) {
+        let SlotRemoval {
+            cells: _,
+            slot: _,
+            index: _,
+            position: _,
+            marked,
+            vacancy,
+            name: _,
+            turn: _,
+        } = self;
+        abandon(marked, vacancy);
     }
 }
 

@@ -39,8 +39,7 @@ impl<T> Turns<T> {
         }
     }
 
-    /// Returns, by two plain loads, the turn and the name of the value that is shown. `None`: no value is shown, or the
-    /// place went to another value between the loads.
+    /// Returns the turn and name of the shown value, by two plain loads. `None`: none is, or it changed in between.
     pub fn shown(&self) -> Option<(u64, TurnName<T>)>
         ensures { IfSome result (λ shown. (shown.1.log ≡ self.now.log) × (shown.1.turn ≡ shown.0)) }
     {

@@ -61,8 +61,7 @@ impl<T> Model for TurnClaim<T> {
     ghost also_owns = { λ h. claim_of T.row h.at h.state h.word h.right };
 }
 
-/// A claimed place with a value in it.
-#[derive(Drop)]
+/// A claimed place with a value in it. It can't be dropped: its value is shown, or taken out.
 pub struct Filled<T> {
     pub(crate) at: *const T,
     pub ghost state: { ℕ },
@@ -74,8 +73,8 @@ impl<T> Model for Filled<T> {
     ghost also_owns = { λ h. filled_has T.row h.at h.state h.word h.value };
 }
 
-/// What a mark gained beside what was lent: nothing, or the place, once the value's lifetime is over.
-#[derive(Drop)]
+/// What a mark gained beside what was lent: nothing, or the place, once the value's lifetime is over. It can't be
+/// dropped, so that what gained a place gives the value back that is in it.
 pub struct Vacancy<T> {
     pub(crate) at: *const T,
     pub ghost right: { ℕ },
@@ -133,8 +132,7 @@ impl<T> Turns<T> {
         }
     }
 
-    /// Claims the place at this turn, by one exchange. Of several claims one succeeds, and none does if the word is
-    /// another one.
+    /// Claims the place at this turn, by one exchange. Of several claims one succeeds, and none if the word is another.
     pub fn claim(&self, at: *const T, turn: u64, before: u64, after: u64) -> (u64, TurnClaim<T>)
         requires { (at ≡ self.now.at) × (before ≡ turn_word (vacant turn)) × (after ≡ turn_word (claimed turn)) }
         ensures { (result.0 ≡ before → result.1.right ≡ 1) × (result.0 ≢ before → result.1.right ≡ 0)
@@ -228,9 +226,7 @@ impl<T> Turns<T> {
     {
         let _ = name;
         let found = unsafe { exchange::<Brand>(&raw const self.word, before, after) };
-        let marked = Marked { at };
-        let vacancy = Vacancy { at };
-        (found, marked, vacancy)
+        (found, Marked { at }, Vacancy { at })
     }
 
     /// Makes the place vacant at this turn, by one store of the word. The caller has claimed the place at this turn, or
@@ -253,6 +249,11 @@ impl<T> Turns<T> {
         let Self { word, marker: _ } = self;
         (word, TurnClaim { at })
     }
+}
+
+/// Gives a marked value up where it is, if a guard is out that may have it. Only an end of cells does this.
+pub fn abandon<T>(marked: Marked<T>, vacancy: Vacancy<T>) {
+    let (Marked { at: _ }, Vacancy { at: _ }) = (marked, vacancy);
 }
 
 impl<T> Found<T> {

@@ -87,8 +87,7 @@ impl<'p, J: PostSet> Pinned<'p, J> {
         self.epoch
     }
 
-    /// Ends the pin, and pins anew in this epoch, by two stores to its post. What was lent before can't be used any
-    /// more, since the pin was handed in.
+    /// Ends the pin, and pins anew in this epoch, by two stores to its post. What was lent can't be used any more.
     #[inline(always)]
     pub fn repin(self, epoch: u64) -> Pinned<'p, J>
         requires { epoch < 2 ^ 63 }

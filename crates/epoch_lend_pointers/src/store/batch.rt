@@ -1,6 +1,6 @@
 //! Removals that go back together: posts are looked at once for all of them.
-ghost use Rattle.std.specs.Prelude.{◌≡◌, ◌<◌, ◌≤◌, List, [], ◌∷◌, ◌++◌, length, map, vec_len, vec_capacity};
-ghost use Rattle.std.specs.Prelude.{IsOk, IfOk, IfErr, OnOk, OnErr, MatchOption};
+ghost use Rattle.std.specs.Prelude.{◌≡◌, ◌+◌, ◌<◌, ◌≤◌, List, [], ◌∷◌, ◌++◌, length, map, vec_len, vec_capacity};
+ghost use Rattle.std.specs.Prelude.{◌↔◌, IsTrue, IfOk, IfErr, MatchOption};
 ghost use Rattle.epoch_lend.specs.Posts.{logs_of};
 ghost use Rattle.epoch_lend.specs.Loans.{Within, AreShown, EachSeen, is_sealed};
 ghost use Rattle.epoch_lend.specs.Bags.{EachWatched};
@@ -11,8 +11,8 @@ use epoch_lend::readers::posts::{PostSet, Posts};
 use epoch_lend::watch::Watch;
 use std::alloc::{AllocError, Global};
 
-/// Values that were marked, and go back together.
-#[derive(Drop)]
+/// Values that were marked, and go back together. No batch can be dropped: its values come back, from a [`ClearBatch`],
+/// or are given up by an end.
 pub struct Batch<'c, J: PostSet, T> {
     removals: Vec<SlotRemoval<'c, J, T>>,
     watch: Watch,
@@ -22,7 +22,6 @@ pub struct Batch<'c, J: PostSet, T> {
 }
 
 /// A batch whose posts were looked at once: each guard that had a loan is over, or is of an epoch before the seal.
-#[derive(Drop)]
 pub struct SealedBatch<'c, J: PostSet, T> {
     removals: Vec<SlotRemoval<'c, J, T>>,
     watch: Watch,
@@ -33,7 +32,6 @@ pub struct SealedBatch<'c, J: PostSet, T> {
 }
 
 /// A batch whose values come back: each guard that one of them was lent to is over.
-#[derive(Drop)]
 pub struct ClearBatch<'c, J: PostSet, T> {
     removals: Vec<SlotRemoval<'c, J, T>>,
     watch: Watch,
@@ -44,7 +42,7 @@ pub struct ClearBatch<'c, J: PostSet, T> {
 impl<'c, J: PostSet, T> Batch<'c, J, T> {
     /// Makes an empty batch with room for this many removals. It fails only if memory is refused.
     pub fn with_capacity(alloc: Global, capacity: usize) -> Result<Batch<'c, J, T>, AllocError>
-        ensures empty { IfOk result (λ batch. batch.removals.items ≡ []) }
+        ensures empty { IfOk result (λ batch. vec_len batch.removals ≡ 0) }
         ensures room { IfOk result (λ batch. capacity ≤ vec_capacity batch.removals) }
     {
         let removals = Vec::with_capacity(alloc, capacity)?;
@@ -54,6 +52,22 @@ impl<'c, J: PostSet, T> Batch<'c, J, T> {
         })
     }
 
+    /// Makes a batch of this removal alone. It is handed back if memory is refused.
+    pub fn of(
+        alloc: Global,
+        removal: SlotRemoval<'c, J, T>,
+    ) -> Result<Batch<'c, J, T>, SlotRemoval<'c, J, T>>
+        ensures alone { IfOk result (λ batch. map (λ r. r.name) batch.removals.items ≡ removal.entry.name ∷ []) }
+        ensures handed_back { IfErr result (λ back. back ≡ removal.entry) }
+    {
+        let Ok(empty) = Batch::with_capacity(alloc, 1) else {
+            return Err(removal);
+        };
+        let mut alone = empty;
+        alone.push(removal);
+        Ok(alone)
+    }
+
     /// Returns how many removals are in the batch.
     pub fn len(&self) -> usize
         ensures { result ≡ length self.now.removals.items }
@@ -61,21 +75,33 @@ impl<'c, J: PostSet, T> Batch<'c, J, T> {
         self.removals.len()
     }
 
-    /// Puts a removal into the batch, behind the others. It is handed back only if the batch has no room for it, and
-    /// memory for more room is refused.
-    pub fn push(&mut self, removal: SlotRemoval<'c, J, T>) -> Result<(), SlotRemoval<'c, J, T>>
-        ensures ok { OnOk result (map (λ r. r.name) self.new.removals.items
-            ≡ map (λ r. r.name) self.old.removals.items ++ removal.entry.name ∷ []) }
-        ensures err { OnErr result (self.new.removals.items ≡ self.old.removals.items) }
-        ensures handed_back { IfErr result (λ back. back.name ≡ removal.entry.name) }
-        // A batch with room takes a removal. A removal that isn't taken is handed back, and the batch is as it was.
-        ensures succeeds { vec_len self.old.removals < vec_capacity self.old.removals → IsOk result }
+    /// Returns whether there is room for a further removal.
+    #[inline(always)]
+    pub fn has_room(&self) -> bool
+        ensures { IsTrue result ↔ (vec_len self.now.removals < vec_capacity self.now.removals) }
+    {
+        self.removals.len() < self.removals.capacity()
+    }
+
+    /// Puts a removal into the batch, behind the others. The batch must have room for it.
+    pub fn push(&mut self, removal: SlotRemoval<'c, J, T>)
+        requires { vec_len self.old.removals < vec_capacity self.old.removals }
+        // A batch with room takes a removal, behind those that it has.
+        ensures names { map (λ r. r.name) self.new.removals.items
+            ≡ map (λ r. r.name) self.old.removals.items ++ removal.entry.name ∷ [] }
+        ensures len { vec_len self.new.removals ≡ vec_len self.old.removals + 1 }
+        ensures capacity { vec_capacity self.new.removals ≡ vec_capacity self.old.removals }
     {
         let removal = removal.watched(&mut self.watch);
-        match self.removals.push(removal) {
-            Ok(()) => Ok(()),
-            Err(failed) => Err(failed.value),
-        }
+        self.removals.push_reserved(removal);
+    }
+
+    /// Ends a batch that has no removal.
+    pub fn finish(self)
+        requires { vec_len self.removals ≡ 0 }
+    {
+        let Batch { removals, watch: _ } = self;
+        removals.destroy_empty();
     }
 
     /// Looks at each post once, for all removals of the batch.
@@ -93,6 +119,21 @@ impl<'c, J: PostSet, T> Batch<'c, J, T> {
 }
 
 impl<'c, J: PostSet, T> SealedBatch<'c, J, T> {
+    /// Gives its values up: they stay where they are, and nothing drops them any more. Only an end of a store does
+    /// this, if a guard is out that may have one of them.
+    pub fn abandon(self) {
+        let SealedBatch {
+            removals,
+            watch: _,
+            seal: _,
+        } = self;
+        let mut rest = removals;
+        while let Some(removal) = rest.pop() {
+            removal.abandon();
+        }
+        rest.destroy_empty();
+    }
+
     /// Returns its seal: it comes back once each post is unpinned, or pinned in this epoch or a later one.
     pub fn seal(&self) -> u64
         ensures { result ≡ self.now.seal }
@@ -139,7 +180,7 @@ impl<'c, J: PostSet, T> ClearBatch<'c, J, T> {
     /// Takes the value of the last removal out of its slot, which is empty at its next turn from then on, and returns
     /// the value with its name. `None`: each value was taken out.
     pub fn next(&mut self) -> Option<(T, TurnName<T>)>
-        ensures which { MatchOption result (self.old.removals.items ≡ [])
+        ensures which { MatchOption result ((self.old.removals.items ≡ []) × (vec_len self.new.removals ≡ 0))
             (λ back. map (λ r. r.name) self.old.removals.items
             ≡ map (λ r. r.name) self.new.removals.items ++ back.1 ∷ []) }
         ensures value { MatchOption result (Unit {0}) (λ back. back.0 ≡ back.1.value) }
@@ -158,8 +199,8 @@ impl<'c, J: PostSet, T> ClearBatch<'c, J, T> {
     pub fn next_with_room(&mut self) -> Option<Returned<'c, J, T>>
         // A clear batch gives back each value once, with its name, and with the *room* in which it was: the place of
         // its cell, which no other caller can use. A store drops only the values of a batch that gave them back: each
-        // guard that one of them was lent to is over.
-        ensures which { MatchOption result (self.old.removals.items ≡ [])
+        // guard that one of them was lent to is over. What is clear ends only once it has given all back.
+        ensures which { MatchOption result ((self.old.removals.items ≡ []) × (vec_len self.new.removals ≡ 0))
             (λ back. map (λ r. r.name) self.old.removals.items
             ≡ map (λ r. r.name) self.new.removals.items ++ back.name ∷ []) }
     {
@@ -167,5 +208,13 @@ impl<'c, J: PostSet, T> ClearBatch<'c, J, T> {
             Some(removal) => Some(removal.take(&mut self.watch)),
             None => None,
         }
+    }
+
+    /// Ends a clear batch that has given all of its values back.
+    pub fn finish(self)
+        requires { vec_len self.removals ≡ 0 }
+    {
+        let ClearBatch { removals, watch: _ } = self;
+        removals.destroy_empty();
     }
 }

@@ -14,12 +14,35 @@ pub(crate) const PLACES: usize = 64;
 // For how many things memory is taken, when a second one is put into a place.
 const TOGETHER_AT_FIRST: usize = 4;
 
+/// A thing that must not be dropped, and can be given up.
+pub(crate) trait Abandon {
+    /// Gives it up. This is for ends, and for a place that was changed by another thread than the one that has it,
+    /// which no thread does.
+    fn abandon(self);
+}
+
 /// The things in one place. A thing that is alone takes no memory.
 #[derive(Drop)]
-enum Pile<X> {
+pub(crate) enum Pile<X> {
     One(X),
     /// The oldest is in front.
     Many(VecDeque<X>),
+}
+
+impl<X: Abandon> Pile<X> {
+    /// Gives up what is on it.
+    pub(crate) fn abandon(self) {
+        match self {
+            Pile::One(thing) => thing.abandon(),
+            Pile::Many(things) => {
+                let mut rest = things;
+                while let Some(thing) = rest.pop_front() {
+                    thing.abandon();
+                }
+                rest.destroy_empty();
+            }
+        }
+    }
 }
 
 impl<X> Fits for Pile<X> {
@@ -57,32 +80,44 @@ pub(crate) struct Piles<X> {
     alloc: Global,
 }
 
-// Exchanges what is in a place for this, by one exchange of its word and one store, if the word is `from`. Returns what
-// was there. `None`: nothing was, or the word was another one, and this is dropped.
+// Gives up what was in a place where nothing should have been.
+fn give_up<X: Abandon>(pile: Option<Pile<X>>) {
+    match pile {
+        Some(pile) => pile.abandon(),
+        None => {}
+    }
+}
+
+// Takes what is in a place, which is kept for the caller, by one exchange of its word and one store. `None`: nothing
+// was there, or another thread has the place.
 #[inline(always)]
-fn exchange<X: Drop>(
-    place: &Counted<Option<Pile<X>>>,
-    from: u64,
-    new: Option<Pile<X>>,
-    to: u64,
-) -> Option<Pile<X>>
-    requires from { from ≤ MARKED }
-    requires to { to ≤ MARKED }
-{
-    if place.load() != from {
+fn take_from<X>(place: &Counted<Option<Pile<X>>>) -> Option<Pile<X>> {
+    if place.load() != PRESENT {
         return None;
     }
-    let (found, claim) = place.turn(from, TAKEN);
-    if found != from {
+    let (found, claim) = place.turn(PRESENT, TAKEN);
+    if found != PRESENT {
         claim.done();
         return None;
     }
-    claim.put(new, to)
+    claim.put(None, MARKED)
+}
+
+// Gives a place back that is kept for the caller, with this in it.
+fn give_back<X: Abandon>(place: &Counted<Option<Pile<X>>>, pile: Option<Pile<X>>) {
+    let word = if pile.is_some() { PRESENT } else { FREE };
+    let (found, claim) = place.turn(MARKED, TAKEN);
+    if found == MARKED {
+        give_up(claim.put(pile, word));
+    } else {
+        claim.done();
+        give_up(pile);
+    }
 }
 
 // Puts a thing into a place that is empty. It is handed back if the place was seen otherwise.
 #[inline(always)]
-fn put_alone<X: Drop>(place: &Counted<Option<Pile<X>>>, thing: X) -> Result<(), X>
+fn put_alone<X: Abandon>(place: &Counted<Option<Pile<X>>>, thing: X) -> Result<(), X>
     ensures { IfErr result (λ back. back ≡ thing) }
 {
     let (found, claim) = place.turn(FREE, TAKEN);
@@ -90,14 +125,15 @@ fn put_alone<X: Drop>(place: &Counted<Option<Pile<X>>>, thing: X) -> Result<(), 
         claim.done();
         return Err(thing);
     }
-    let _ = claim.put(Some(Pile::One(thing)), PRESENT);
+    give_up(claim.put(Some(Pile::One(thing)), PRESENT));
     Ok(())
 }
 
 // What is left in a place when a thing was taken out of it for good.
-fn pile_of<X: Drop>(others: Option<Others<X>>) -> Option<Pile<X>> {
+fn pile_of<X>(others: Option<Others<X>>) -> Option<Pile<X>> {
     let Others { many } = others?;
     if many.is_empty() {
+        many.destroy_empty();
         return None;
     }
     Some(Pile::Many(many))
@@ -127,14 +163,12 @@ fn pile_up<X>(alloc: Global, pile: Pile<X>, thing: X) -> (Pile<X>, Result<(), X>
     }
 }
 
-impl<X: Drop> Piles<X> {
+impl<X> Piles<X> {
     /// Makes the places, which are empty. It fails only if memory is refused.
     pub(crate) fn new(alloc: Global) -> Result<Piles<X>, AllocError> {
         let mut places = Vec::with_capacity(alloc, PLACES)?;
-        for _ in 0..PLACES {
-            places
-                .push(Counted::new(None, &()))
-                .map_err(|_| AllocError)?;
+        while places.len() < PLACES {
+            places.push_reserved(Counted::new(None, &()));
         }
         Ok(Piles {
             places,
@@ -158,6 +192,19 @@ impl<X: Drop> Piles<X> {
         self.left.load(SeqCst)
     }
 
+    /// Ends the places, and returns them, each with what is in it.
+    pub(crate) fn into_places(self) -> Vec<Counted<Option<Pile<X>>>> {
+        let Piles {
+            places,
+            put: _,
+            left: _,
+            alloc: _,
+        } = self;
+        places
+    }
+}
+
+impl<X: Abandon> Piles<X> {
     /// Puts a thing behind the others. It is handed back if each place was seen in another thread's hands, or had
     /// things already and memory for one more was refused.
     pub(crate) fn put(&self, thing: X) -> Result<(), X>
@@ -186,12 +233,11 @@ impl<X: Drop> Piles<X> {
             self.put.fetch_add(1, SeqCst);
             return Ok(());
         }
-        let Some(pile) = exchange(place, PRESENT, None, MARKED) else {
+        let Some(pile) = take_from(place) else {
             return Err(thing);
         };
         let (pile, answer) = pile_up(self.alloc, pile, thing);
-        // Nobody else changes a place that is marked, so this one is put.
-        let _ = exchange(place, MARKED, Some(pile), PRESENT);
+        give_back(place, Some(pile));
         if answer.is_ok() {
             self.put.fetch_add(1, SeqCst);
         }
@@ -205,7 +251,7 @@ impl<X: Drop> Piles<X> {
     pub(crate) fn take_out(&self, number: usize) -> Option<(X, Rest<X>)> {
         let position = number % PLACES;
         let place = self.places.get(position)?;
-        match exchange(place, PRESENT, None, MARKED)? {
+        match take_from(place)? {
             Pile::One(thing) => {
                 let rest = Rest {
                     position,
@@ -215,7 +261,11 @@ impl<X: Drop> Piles<X> {
             }
             Pile::Many(others) => {
                 let mut many = others;
-                let thing = many.pop_front()?;
+                let Some(thing) = many.pop_front() else {
+                    many.destroy_empty();
+                    give_back(place, None);
+                    return None;
+                };
                 let rest = Rest {
                     position,
                     others: Some(Others { many }),
@@ -236,8 +286,9 @@ impl<X: Drop> Piles<X> {
                 Pile::Many(many)
             }
         };
-        if let Some(place) = self.places.get(position) {
-            let _ = exchange(place, MARKED, Some(pile), PRESENT);
+        match self.places.get(position) {
+            Some(place) => give_back(place, Some(pile)),
+            None => pile.abandon(),
         }
     }
 
@@ -246,9 +297,9 @@ impl<X: Drop> Piles<X> {
         let Rest { position, others } = rest;
         self.left.fetch_add(1, SeqCst);
         let pile = pile_of(others);
-        let word = if pile.is_some() { PRESENT } else { FREE };
-        if let Some(place) = self.places.get(position) {
-            let _ = exchange(place, MARKED, pile, word);
+        match self.places.get(position) {
+            Some(place) => give_back(place, pile),
+            None => give_up(pile),
         }
     }
 

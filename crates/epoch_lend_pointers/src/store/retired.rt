@@ -1,5 +1,5 @@
 //! Retired values: they are marked once no guard from before can find them, and wait then for guards that have them.
-ghost use Rattle.std.specs.Prelude.{◌≡◌, ◌++◌, ◌∷◌, [], length, IfOk, OnOk, OnErr, vec_len};
+ghost use Rattle.std.specs.Prelude.{◌≡◌, ◌≤◌, ◌<◌, ◌++◌, ◌∷◌, [], length, IfOk, vec_len, vec_capacity};
 ghost use Rattle.epoch_lend.specs.Grace.{PassesAll};
 ghost use Rattle.epoch_lend.specs.Grace.PinStep.{Ticks};
 
@@ -15,23 +15,24 @@ use std::alloc::{AllocError, Global};
 pub const RETIRED_TOGETHER: usize = 64;
 
 // What `Retired` has in a box.
-#[derive(Drop)]
 struct Lists<'s, J: PostSet, T> {
     spots: Vec<SlotTurn>,
     // Room for the removals, taken beforehand: so no value is kept back because memory is refused later.
     batch: Batch<'s, J, T>,
 }
 
-/// Where values are that were retired, and will be marked together.
-#[derive(Drop)]
+/// Where values are that were retired, and will be marked together. It can't be dropped, unless it has no value.
 pub struct Retired<'s, J: PostSet, T> {
     // In a box, since it is moved from hand to hand.
     lists: Box<Lists<'s, J, T>>,
+    ghost for_spots: { 64 ≤ vec_capacity lists.value.spots },
+    ghost for_removals: { 64 ≤ vec_capacity lists.value.batch.removals },
+    ghost few: { vec_len lists.value.spots ≤ 64 },
+    ghost unmarked: { vec_len lists.value.batch.removals ≡ 0 },
 }
 
 /// Retired values, which were out of reach when the clock came to this epoch. They ripen until each pin that began
 /// before is over.
-#[derive(Drop)]
 pub struct Ripening<'s, J: PostSet, T> {
     epoch: u64,
     retired: Retired<'s, J, T>,
@@ -46,7 +47,11 @@ impl<'s, J: PostSet, T> Retired<'s, J, T> {
         let batch = Batch::with_capacity(alloc, RETIRED_TOGETHER)?;
         match Box::new(alloc, Lists { spots, batch }) {
             Ok(lists) => Ok(Retired { lists }),
-            Err(_) => Err(AllocError),
+            Err(failed) => {
+                let Lists { spots: _, batch } = failed.value;
+                batch.finish();
+                Err(AllocError)
+            }
         }
     }
 
@@ -58,16 +63,27 @@ impl<'s, J: PostSet, T> Retired<'s, J, T> {
         self.lists.spots.len()
     }
 
-    /// Adds the value at this spot. `Err`: there was no memory.
+    /// Adds the value at this spot. There must be fewer than [`RETIRED_TOGETHER`].
     #[inline(always)]
-    pub fn keep(&mut self, spot: SlotTurn) -> Result<(), AllocError>
-        ensures ok { OnOk result (self.new.lists.value.spots.items ≡ self.old.lists.value.spots.items ++ spot ∷ []) }
-        ensures err { OnErr result (self.new.lists.value.spots.items ≡ self.old.lists.value.spots.items) }
+    pub fn keep(&mut self, spot: SlotTurn)
+        requires { vec_len self.old.lists.value.spots < 64 }
+        ensures { self.new.lists.value.spots.items ≡ self.old.lists.value.spots.items ++ spot ∷ [] }
     {
-        match self.lists.spots.push(spot) {
-            Ok(()) => Ok(()),
-            Err(_) => Err(AllocError),
-        }
+        self.lists.spots.push_reserved(spot);
+    }
+
+    /// Ends a list that has no value.
+    pub fn finish(self)
+        requires { vec_len self.lists.value.spots ≡ 0 }
+    {
+        self.abandon();
+    }
+
+    /// Gives the list up. Its values stay in their cells, where the end of their store finds them.
+    pub fn abandon(self) {
+        let Retired { lists } = self;
+        let Lists { spots: _, batch } = Box::into_inner(lists);
+        batch.finish();
     }
 }
 
@@ -113,9 +129,9 @@ impl<'s, J: PostSet, T> Ripening<'s, J, T> {
         let Retired { lists } = retired;
         let Lists { spots, batch } = Box::into_inner(lists);
         let mut removals = batch;
-        for spot in &spots {
-            if let Some(marked) = cells.mark(*spot) {
-                let _ = removals.push(marked.found);
+        for position in 0..spots.len() {
+            if let Some(marked) = cells.mark(spots[position]) {
+                removals.push(marked.found);
             }
         }
         removals

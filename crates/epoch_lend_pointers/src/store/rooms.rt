@@ -1,6 +1,7 @@
 //! Free cells of one owner, for its next values.
 ghost use Rattle.std.specs.Prelude.{◌≡◌, ◌+◌, length, IfErr, IfSome};
 
+use crate::store::piles::Abandon;
 use epoch_lend::array::room::LentRoom;
 use epoch_lend::readers::posts::PostSet;
 use std::alloc::{AllocError, Global};
@@ -59,5 +60,11 @@ impl<'s, J: PostSet, T> LentRooms<'s, J, T> {
         ensures { IfSome result (λ room. length self.new.list.items + 1 ≡ length self.old.list.items) }
     {
         self.list.pop()
+    }
+}
+
+impl<'s, J: PostSet, T> Abandon for LentRooms<'s, J, T> {
+    fn abandon(self) {
+        self.release();
     }
 }

@@ -174,6 +174,7 @@ impl<'s, J: PostSet, T: Drop> Store<'s, J, T> {
             }
             self.keep_in(&mut others, room);
         }
+        rest.finish();
         self.leave_rooms(others);
         dropped
     }

@@ -126,7 +126,7 @@ pub(crate) fn run<J: PostSet + Send + Sync, R: Abort + Threads + Wait + Sync>(
         is_over: AtomicBool::new(false),
     };
     run_at_once(rt, alloc, &store, &present, tally);
-    let _ = store.end(alloc);
+    let _ = store.end();
 }
 
 #[test]

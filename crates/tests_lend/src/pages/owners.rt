@@ -119,7 +119,7 @@ pub(crate) fn run<J: PostSet + Send + Sync, R: Abort + Threads + Wait + Sync>(
     let mut cells = cells(rt, alloc, domain);
     let store = Store::new(alloc, domain, &mut cells).expect(rt, "memory for a store");
     share(rt, alloc, &store, tally);
-    let _ = store.end(alloc);
+    let _ = store.end();
 }
 
 #[test]

@@ -150,7 +150,7 @@ pub(crate) fn run<J: PostSet>(rt: &impl Abort, alloc: Global, domain: &Domain<J>
     let owners = Store::new(alloc, domain, &mut for_owners).expect(rt, memory);
     let jobs = Store::new(alloc, domain, &mut for_jobs).expect(rt, memory);
     ask_all(rt, alloc, &configs, &owners, &jobs);
-    let _ = (configs.end(alloc), owners.end(alloc), jobs.end(alloc));
+    let _ = (configs.end(), owners.end(), jobs.end());
 }
 
 #[test]

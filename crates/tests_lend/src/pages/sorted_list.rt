@@ -143,7 +143,7 @@ pub(crate) fn run<J: PostSet + Send + Sync, R: Abort + Threads + Wait + Sync>(
     let store = Store::new(alloc, domain, &mut cells).expect(rt, "memory for a store");
     let is_over = AtomicBool::new(false);
     run_at_once(rt, alloc, &store, &SortedList::new(&store), &is_over, tally);
-    add(&tally.second, store.end(alloc) as u64);
+    add(&tally.second, store.end() as u64);
 }
 
 #[test]

@@ -318,7 +318,7 @@ pub(crate) fn lends_of_two_stores<J: PostSet>(
     let mut cells = LentCells::new(alloc, 8, domain).expect(rt, "memory");
     let strange = Store::new(alloc, domain, &mut cells).expect(rt, "memory");
     gets_both(rt, alloc, probes, &numbers, &strange, counts);
-    let left = (numbers.end(alloc), strange.end(alloc));
+    let left = (numbers.end(), strange.end());
     want(rt, "no number is left", left, (0, 0));
 }
 

@@ -54,7 +54,7 @@ impl<R: Abort> DomainWork for Staged<'_, R> {
         let mut cells = LentCells::new(alloc, cells, domain)?;
         let store = Store::new(alloc, domain, &mut cells)?;
         act(rt, alloc, &store, scene, counts);
-        Ok(store.end(alloc))
+        Ok(store.end())
     }
 }
 

@@ -188,7 +188,7 @@ fn start<J: PostSet + Send + Sync, R: Threads + Wait + Abort + Sync>(
     let store = Store::new(alloc, &domain, &mut cells)?;
     run_at_once(rt, alloc, &store, shelf);
     let free = free_cells(rt, alloc, &store, shelf);
-    let _ = store.end(alloc);
+    let _ = store.end();
     Ok(free)
 }
 

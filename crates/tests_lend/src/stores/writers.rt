@@ -166,7 +166,7 @@ fn ends_too_early<J: PostSet>(rt: &impl Abort, alloc: Global, probes: &Store<'_,
         want(rt, "a number is placed", fault, None);
     }
     release(rt, writer);
-    want(rt, "values are left to the guard", store.end(alloc), 0);
+    want(rt, "values are left to the guard", store.end(), 0);
     session.unpin(guard);
 }
 

@@ -230,7 +230,7 @@ fn begin<J: PostSet + Send + Sync, R: Abort + Threads + Wait + Sync>(
     rounds(rt, &mut part, AFTER_A_RACE);
     leave(rt, part);
     drop(map);
-    want(rt, "how many nodes are left", store.end(alloc), 0);
+    want(rt, "how many nodes are left", store.end(), 0);
 }
 
 fn play_race<R: Abort + Threads + Wait + Sync>(rt: &R, alloc: Global) {

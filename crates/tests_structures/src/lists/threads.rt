@@ -133,7 +133,7 @@ fn begin<J: PostSet + Send + Sync, R: Abort + Threads + Wait + Sync>(
     leave(rt, part);
     drop(pile);
     let left = if is_queue { 1 } else { 0 };
-    want(rt, "how many nodes are left", store.end(alloc), left);
+    want(rt, "how many nodes are left", store.end(), left);
 }
 
 fn play_race<R: Abort + Threads + Wait + Sync>(rt: &R, alloc: Global, is_queue: bool) {

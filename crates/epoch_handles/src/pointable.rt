@@ -12,7 +12,7 @@ use std::alloc::Global;
 ///
 /// To implement it for a type of your own, choose a power of two for `ALIGN`, state the exponent `log` and the two
 /// facts about it, and write `init`: docs/STRUCTURES.md has an example. Put a value of another crate's type into
-/// [`Plain`](crate::Plain). In crossbeam-epoch every type implements this trait.
+/// `Plain` of `epoch_atomic`. In crossbeam-epoch every type implements this trait.
 pub trait Pointable {
     ghost ALIGN: { ℕ };
 

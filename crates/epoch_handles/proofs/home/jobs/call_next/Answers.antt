@@ -1,7 +1,7 @@
 use Rattle.std.proofs.Common.{◌∙◌, ◌∷◌, ap}
 use Rattle.epoch_bags.specs.declared.job.Job.TheVariants.{Remove}
 use Rattle.epoch_handles.proofs.Collecting.{begins_with, one_fewer}
-use Rattle.epoch_handles.proofs.local.collect.call_next.Goals as goal
+use Rattle.epoch_handles.proofs.home.jobs.call_next.Goals as goal
 
 -- a removal is of the name that was told where it lies
 pub returns-in-Remove-clause-called : goal.returns-in-Remove-clause-called
