@@ -16,7 +16,7 @@ import re
 import sys
 
 LIST = 5
-CLAUSES = 977
+CLAUSES = 1005
 LISTS = 31
 LEMMAS = 362
 STATEMENTS = 24

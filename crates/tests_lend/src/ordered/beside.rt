@@ -19,8 +19,10 @@ const MIDDLE: u64 = 40;
 fn call_of(number: u32) -> Call {
     let key = u64::from((number >> 8) % KEYS);
     match (number >> 24) % 16 {
-        0..=3 => Call::Insert(key, u64::from(number)),
-        4..=7 => Call::Put(key, u64::from(number)),
+        0 | 1 => Call::Insert(key, u64::from(number)),
+        2 | 3 => Call::Make(key, u64::from(number)),
+        4 | 5 => Call::Put(key, u64::from(number)),
+        6 | 7 => Call::ReplaceOdd(key, u64::from(number)),
         8 | 9 => Call::Remove(key),
         10 => Call::PopFirst,
         11 => Call::RemoveOdd(key),
@@ -36,12 +38,22 @@ fn lowest(model: &BTreeMap<u64, u64>, from: u64) -> Option<u64> {
 /// The call on the map of std, and what was there before.
 fn call_model(rt: &impl Abort, model: &mut BTreeMap<u64, u64>, call: Call) -> Option<u64> {
     match call {
-        Call::Insert(key, value) | Call::Put(key, value) => {
+        Call::Insert(key, value) | Call::Put(key, value) | Call::Make(key, value) => {
             let there = model.get(&key).copied();
             if there.is_none() || matches!(call, Call::Put(..)) {
                 want(rt, "memory", model.insert(key, value).is_ok(), true);
             }
-            there
+            match call {
+                Call::Make(..) => there.or(Some(value)),
+                _ => there,
+            }
+        }
+        Call::ReplaceOdd(key, value) => {
+            let odd = model.get(&key).copied().filter(|old| *old % 2 == 1);
+            if odd.is_some() {
+                want(rt, "memory", model.insert(key, value).is_ok(), true);
+            }
+            odd
         }
         Call::Remove(key) => model.remove(&key),
         Call::RemoveOdd(key) => match model.get(&key) {

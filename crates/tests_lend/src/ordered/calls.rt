@@ -3,7 +3,7 @@ use crate::sessions::{pin, session};
 use crate::stores::calls::{flush, release, writer};
 use crate::wants::want;
 use epoch_cells::{Fault, Refused};
-use epoch_lend_pointers::{PostSet, Session, Store, Writer};
+use epoch_lend_pointers::{LendingGuard, PostSet, Session, Store, Writer};
 use epoch_ordered_map::{OrderedEntry, OrderedMap};
 use std::alloc::Global;
 use std::process::Abort;
@@ -15,11 +15,15 @@ pub(crate) type Map<'q, 's, J> = OrderedMap<'q, 's, J, Node>;
 /// What a call answers: the value of a node, or none, or a fault.
 pub(crate) type Told = Result<Option<u64>, Fault>;
 
-/// A call on a map, with a key, and a value for an insert or a put.
+/// A call on a map, with a key, and a value for a node that may be inserted.
 #[derive(Clone, Copy)]
 pub(crate) enum Call {
     Insert(u64, u64),
     Put(u64, u64),
+    /// Looks the key up, and inserts the value if it is missing.
+    Make(u64, u64),
+    /// Puts the value in the place of an odd one.
+    ReplaceOdd(u64, u64),
     Remove(u64),
     /// Removes the key if its value is odd.
     RemoveOdd(u64),
@@ -74,6 +78,36 @@ pub(crate) fn is_odd(node: &Node) -> bool {
     node.value() % 2 == 1
 }
 
+/// What a look-up that inserts this value answered. A refused one hands back what it made.
+fn told_made(rt: &impl Abort, value: u64, lent: Result<&Node, Refused<Option<Node>>>) -> Told {
+    match lent {
+        Ok(node) => Ok(Some(*node.value())),
+        Err(refused) => told(rt, value, Err(refused)),
+    }
+}
+
+/// What a replacement of an odd value by this one answered. The value comes back if another stays.
+fn replace_odd<'s, J: PostSet>(
+    rt: &impl Abort,
+    map: &Map<'_, 's, J>,
+    writer: &mut Writer<'_, 's, J, Node>,
+    guard: &LendingGuard<'_, J>,
+    (key, value): (u64, u64),
+) -> Told {
+    match map.replace_if(writer, guard, OrderedEntry::new(key, value), is_odd) {
+        Ok(Ok(before)) => Ok(Some(*before.value())),
+        Ok(Err((there, back))) => {
+            let there = there.map(|node| *node.value());
+            let now = map.get(guard, &key).map(|node| *node.value());
+            want(rt, "the value that stays", there, now);
+            let back = back.map(|node| node.into_parts().1);
+            want(rt, "the value that comes back", back, Some(value));
+            Ok(None)
+        }
+        Err(refused) => told(rt, value, Err(refused)),
+    }
+}
+
 /// What the call answers under a pin of its own.
 pub(crate) fn answer<'s, J: PostSet>(
     rt: &impl Abort,
@@ -92,6 +126,12 @@ pub(crate) fn answer<'s, J: PostSet>(
             let replaced = map.put(writer, &guard, OrderedEntry::new(key, value));
             told(rt, value, replaced)
         }
+        Call::Make(key, value) => {
+            let make = || OrderedEntry::new(key, value);
+            let lent = map.get_or_insert_with(writer, &guard, &key, make);
+            told_made(rt, value, lent)
+        }
+        Call::ReplaceOdd(key, value) => replace_odd(rt, map, writer, &guard, (key, value)),
         Call::Remove(key) => value_of(map.remove(writer, &guard, &key)),
         Call::RemoveOdd(key) => value_of(map.remove_if(writer, &guard, &key, is_odd)),
         Call::Get(key) => value_of(Ok(map.get(&guard, &key))),

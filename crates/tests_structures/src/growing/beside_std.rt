@@ -37,8 +37,10 @@ fn call_of(number: u32) -> Call {
     };
     let key = Label { place: key, group };
     match (number >> 24) % 8 {
-        0 | 1 => Call::Insert(key, u64::from(number)),
-        2 | 3 => Call::Put(key, u64::from(number)),
+        0 => Call::Insert(key, u64::from(number)),
+        1 => Call::Make(key, u64::from(number)),
+        2 => Call::Put(key, u64::from(number)),
+        3 => Call::ReplaceOdd(key, u64::from(number)),
         4 => Call::Remove(key),
         5 => Call::RemoveOdd(key),
         _ => Call::Get(key),
@@ -48,12 +50,22 @@ fn call_of(number: u32) -> Call {
 /// The call on the map of std, and what was there before.
 fn call_model(rt: &impl Abort, model: &mut BTreeMap<Label, u64>, call: Call) -> Told {
     match call {
-        Call::Insert(key, value) | Call::Put(key, value) => {
+        Call::Insert(key, value) | Call::Put(key, value) | Call::Make(key, value) => {
             let there = model.get(&key).copied();
             if there.is_none() || matches!(call, Call::Put(..)) {
                 want(rt, "memory", model.insert(key, value).is_ok(), true);
             }
-            Ok(there)
+            match call {
+                Call::Make(..) => Ok(there.or(Some(value))),
+                _ => Ok(there),
+            }
+        }
+        Call::ReplaceOdd(key, value) => {
+            let odd = model.get(&key).copied().filter(|old| *old % 2 == 1);
+            if odd.is_some() {
+                want(rt, "memory", model.insert(key, value).is_ok(), true);
+            }
+            Ok(odd)
         }
         Call::Remove(key) => Ok(model.remove(&key)),
         Call::RemoveOdd(key) => match model.get(&key) {
@@ -154,23 +166,31 @@ const ROWS: &[(Call, Told)] = &[
     (Call::Insert(ONE, 11), Ok(Some(10))),
     (Call::Put(ONE, 12), Ok(Some(10))),
     (Call::Get(ONE), Ok(Some(12))),
+    (Call::Make(ONE, 14), Ok(Some(12))),
+    (Call::ReplaceOdd(ONE, 14), NONE),
+    (Call::ReplaceOdd(TWO, 20), NONE),
     (Call::Get(TWO), NONE),
-    (Call::Put(TWO, 20), NONE),
+    (Call::Make(TWO, 21), Ok(Some(21))),
     (Call::Insert(THREE, 30), FULL),
+    (Call::Make(THREE, 30), FULL),
     (Call::Put(ONE, 13), FULL),
+    (Call::ReplaceOdd(TWO, 22), FULL),
     (Call::Get(ONE), Ok(Some(12))),
     (Call::Remove(ONE), Ok(Some(12))),
     (Call::Get(ONE), NONE),
     (Call::Insert(THREE, 31), NONE),
-    (Call::Remove(TWO), Ok(Some(20))),
+    (Call::Remove(TWO), Ok(Some(21))),
     (Call::Remove(TWO), NONE),
-    (Call::Remove(THREE), Ok(Some(31))),
+    (Call::ReplaceOdd(THREE, 32), Ok(Some(31))),
+    (Call::Remove(THREE), Ok(Some(32))),
 ];
 
 // Calls with a writer of another store of the same domain.
 const OF_STRANGERS: &[Call] = &[
     Call::Insert(ONE, 10),
     Call::Put(ONE, 10),
+    Call::Make(ONE, 10),
+    Call::ReplaceOdd(ONE, 10),
     Call::Remove(ONE),
     Call::RemoveOdd(ONE),
 ];

@@ -4,6 +4,8 @@ ghost use Rattle.std.specs.Cmp.Rules.{comparing};
 
 use crate::lending::{Part, Told, pin};
 use crate::map::calls::{told, value_of};
+use crate::wants::want;
+use epoch_cells::Fault;
 use epoch_lend::readers::posts::PostSet;
 use epoch_map::{GrowingMap, LentEntry, MapKey};
 use std::process::Abort;
@@ -29,11 +31,15 @@ pub(crate) type Node = LentEntry<Label, u64>;
 
 pub(crate) type Map<'q, 's, J> = GrowingMap<'q, 's, J, Node>;
 
-/// A call on a map, with a key, and a value for an insert or a put.
+/// A call on a map, with a key, and a value for a node that may be inserted.
 #[derive(Clone, Copy)]
 pub(crate) enum Call {
     Insert(Label, u64),
     Put(Label, u64),
+    /// Looks the key up, and inserts the value if it is missing.
+    Make(Label, u64),
+    /// Puts the value in the place of an odd one.
+    ReplaceOdd(Label, u64),
     Remove(Label),
     /// Removes the key if its value is odd.
     RemoveOdd(Label),
@@ -62,6 +68,29 @@ pub(crate) fn answer<'s, J: PostSet>(
         Call::Put(key, value) => {
             let replaced = map.put(writer, &guard, LentEntry::new(key, value));
             told(rt, value, replaced)
+        }
+        Call::Make(key, value) => {
+            match map.get_or_insert_with(writer, &guard, &key, || LentEntry::new(key, value)) {
+                Ok(node) => Ok(Some(*node.value())),
+                Err(refused) if refused.fault == Fault::StrangerGuard => {
+                    want(rt, "nothing is made", refused.value.is_none(), true);
+                    Err(refused.fault)
+                }
+                Err(refused) => told(rt, value, Err(refused)),
+            }
+        }
+        Call::ReplaceOdd(key, value) => {
+            match map.replace_if(writer, &guard, LentEntry::new(key, value), is_odd) {
+                Ok(Ok(before)) => Ok(Some(*before.value())),
+                Ok(Err((there, back))) => {
+                    let there = value_of(Ok(there));
+                    want(rt, "what stays", there, value_of(Ok(map.get(&guard, &key))));
+                    let back = back.map(|node| node.into_parts().1);
+                    want(rt, "the value that comes back", back, Some(value));
+                    Ok(None)
+                }
+                Err(refused) => told(rt, value, Err(refused)),
+            }
         }
         Call::Remove(key) => value_of(map.remove(writer, &guard, &key)),
         Call::RemoveOdd(key) => value_of(map.remove_if(writer, &guard, &key, is_odd)),
