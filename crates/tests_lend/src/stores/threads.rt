@@ -20,19 +20,33 @@ use std::test::Fail;
 use std::thread;
 use std::thread::Threads;
 
-/// How many threads there are, and how many values each of them places at most.
-const THREADS: usize = 8;
+/// How many threads there are, how many values each of them places at most, and how many cells there are.
+#[derive(Clone, Copy, Drop)]
+struct Plan {
+    threads: usize,
+    each: usize,
+    cells: u32,
+}
 
-const EACH: usize = 2_000;
+/// Some cells wait to be free again.
+const EIGHT: Plan = Plan {
+    threads: 8,
+    each: 2_000,
+    cells: 1_024,
+};
+
+/// There is a cell for each value.
+const SIXTEEN: Plan = Plan {
+    threads: 16,
+    each: 1_000,
+    cells: 16_384,
+};
 
 /// How often a thread reads between two of its values.
 const READS: usize = 4;
 
-/// How many cells there are. Some wait to be free again.
-const CELLS: u32 = 1_024;
-
 /// How many values are made at most: those of the threads, and in the end one for each cell and one more.
-const VALUES: usize = 17_025;
+const VALUES: usize = 32_385;
 
 /// What threads share.
 #[derive(Drop)]
@@ -117,11 +131,12 @@ fn take_part<J: PostSet>(
     alloc: Global,
     store: &Store<'_, J, Probe>,
     shelf: &Shelf,
+    each: usize,
 ) {
     let mut session = session(rt, store.domain());
     let mut writer = writer(rt, alloc, store);
     let mut guard = pin(rt, &mut session);
-    for turn in 0..EACH {
+    for turn in 0..each {
         go_round(store, shelf, &guard, &mut writer, turn);
         if turn % 8 == 0 {
             session.unpin(guard);
@@ -141,6 +156,7 @@ fn free_cells<J: PostSet>(
     alloc: Global,
     store: &Store<'_, J, Probe>,
     shelf: &Shelf,
+    cells: u32,
 ) -> u64 {
     let mut session = session(rt, store.domain());
     let mut writer = writer(rt, alloc, store);
@@ -152,7 +168,7 @@ fn free_cells<J: PostSet>(
     want(rt, "nothing waits any more", store.waiting(), 0);
     let guard = pin(rt, &mut session);
     let mut free: u64 = 0;
-    for _ in 0..u64::from(CELLS) + 1 {
+    for _ in 0..u64::from(cells).wrapping_add(1) {
         if writer.place(&guard, shelf.probe()).is_ok() {
             free = free.wrapping_add(1);
         }
@@ -167,10 +183,11 @@ fn run_at_once<J: PostSet + Send + Sync, R: Threads + Wait + Abort + Sync>(
     alloc: Global,
     store: &Store<'_, J, Probe>,
     shelf: &Shelf,
+    plan: Plan,
 ) {
     thread::scope(thread::scope_env(), rt, |scope| {
-        for _ in 0..THREADS {
-            let _ = scope.spawn(move || take_part(rt, alloc, store, shelf));
+        for _ in 0..plan.threads {
+            let _ = scope.spawn(move || take_part(rt, alloc, store, shelf, plan.each));
         }
     });
 }
@@ -180,51 +197,57 @@ fn start<J: PostSet + Send + Sync, R: Threads + Wait + Abort + Sync>(
     alloc: Global,
     made: Made,
     shelf: &Shelf,
+    plan: Plan,
 ) -> Result<u64, Fail>
     requires { made.posts.items ≡ J.posts }
 {
     let domain = Domain::new(Posts::<J>::of(alloc, made)?);
-    let mut cells = LentCells::new(alloc, CELLS, &domain)?;
+    let mut cells = LentCells::new(alloc, plan.cells, &domain)?;
     let store = Store::new(alloc, &domain, &mut cells)?;
-    run_at_once(rt, alloc, &store, shelf);
-    let free = free_cells(rt, alloc, &store, shelf);
+    run_at_once(rt, alloc, &store, shelf, plan);
+    let free = free_cells(rt, alloc, &store, shelf, plan.cells);
     let _ = store.end();
     Ok(free)
 }
 
-fn race<R: Threads + Wait + Abort + Sync>(
-    rt: &R,
-    alloc: Global,
-    shelf: &Shelf,
-) -> Result<u64, Fail> {
-    let made = Made::new(alloc, THREADS)?;
-    start::<Brand, R>(rt, alloc, made, shelf)
-}
-
-#[test]
-fn each_value_is_dropped_once_and_no_cell_is_lost_by_8_threads(
-    rt: HostRuntime,
-) -> Result<(), Fail> {
+/// Has the threads take part, and looks at what every plan wants. Returns how many values were placed.
+fn run<R: Threads + Wait + Abort + Sync>(rt: &R, alloc: Global, plan: Plan) -> Result<u64, Fail> {
     let shelf = Shelf {
         even: Atomic::null(),
         odd: Atomic::null(),
-        counts: counts_for(rt.alloc(), VALUES)?,
+        counts: counts_for(alloc, VALUES)?,
         next: AtomicUsize::new(0),
         placed: AtomicU64::new(0),
         reads: AtomicU64::new(0),
         torn: AtomicU64::new(0),
         missed: AtomicU64::new(0),
     };
-    let free = race(&rt, rt.alloc(), &shelf)?;
+    let made = Made::new(alloc, plan.threads)?;
+    let free = start::<Brand, R>(rt, alloc, made, &shelf, plan)?;
     let wrong = (shelf.torn.load(SeqCst), shelf.missed.load(SeqCst));
-    want(&rt, "no value is torn, and none is missed", wrong, (0, 0));
+    want(rt, "no value is torn, and none is missed", wrong, (0, 0));
     let reads = shelf.reads.load(SeqCst);
-    want(&rt, "values were read", reads > 100, true);
-    let is_used_again = shelf.placed.load(SeqCst) > u64::from(CELLS);
-    want(&rt, "cells were used again", is_used_again, true);
-    want(&rt, "each is free in the end", free, u64::from(CELLS));
-    let made = shelf.next.load(SeqCst) as u64;
+    want(rt, "values were read", reads > 100, true);
+    want(rt, "each is free in the end", free, u64::from(plan.cells));
     let dropped = dropped_once(&shelf.counts);
-    want(&rt, "each value was dropped once", dropped, made);
+    let all = shelf.next.load(SeqCst) as u64;
+    want(rt, "each value was dropped once", dropped, all);
+    Ok(shelf.placed.load(SeqCst))
+}
+
+#[test]
+fn each_value_is_dropped_once_and_no_cell_is_lost_by_8_threads(
+    rt: HostRuntime,
+) -> Result<(), Fail> {
+    let placed = run(&rt, rt.alloc(), EIGHT)?;
+    let is_used_again = placed > u64::from(EIGHT.cells);
+    want(&rt, "cells were used again", is_used_again, true);
+    Ok(())
+}
+
+#[test]
+fn no_call_of_16_threads_is_refused_below_the_limit(rt: HostRuntime) -> Result<(), Fail> {
+    let placed = run(&rt, rt.alloc(), SIXTEEN)?;
+    want(&rt, "all values were placed", placed, 16_000);
     Ok(())
 }

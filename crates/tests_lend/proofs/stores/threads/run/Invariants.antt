@@ -1,4 +1,4 @@
-use Rattle.tests_lend.proofs.stores.threads.race.Given as goal
+use Rattle.tests_lend.proofs.stores.threads.run.Given as goal
 
 -- the set has the posts that were made
 abbrev pub ghosts-start : goal.ghosts-start
