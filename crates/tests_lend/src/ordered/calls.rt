@@ -61,7 +61,7 @@ fn value_of(found: Result<Option<&Node>, Fault>) -> Told {
     Ok(found?.map(|node| *node.value()))
 }
 
-/// What an insert or a put of this value answered. A refused one hands the node back.
+/// What a call that was given this value answered. A refused one hands the node back.
 fn told(rt: &impl Abort, value: u64, answer: Result<Option<&Node>, Refused<Option<Node>>>) -> Told {
     match answer {
         Ok(there) => value_of(Ok(there)),
@@ -76,14 +76,6 @@ fn told(rt: &impl Abort, value: u64, answer: Result<Option<&Node>, Refused<Optio
 /// Returns whether the node's value is odd.
 pub(crate) fn is_odd(node: &Node) -> bool {
     node.value() % 2 == 1
-}
-
-/// What a look-up that inserts this value answered. A refused one hands back what it made.
-fn told_made(rt: &impl Abort, value: u64, lent: Result<&Node, Refused<Option<Node>>>) -> Told {
-    match lent {
-        Ok(node) => Ok(Some(*node.value())),
-        Err(refused) => told(rt, value, Err(refused)),
-    }
 }
 
 /// What a replacement of an odd value by this one answered. The value comes back if another stays.
@@ -129,7 +121,7 @@ pub(crate) fn answer<'s, J: PostSet>(
         Call::Make(key, value) => {
             let make = || OrderedEntry::new(key, value);
             let lent = map.get_or_insert_with(writer, &guard, &key, make);
-            told_made(rt, value, lent)
+            told(rt, value, lent.map(|node| Some(node)))
         }
         Call::ReplaceOdd(key, value) => replace_odd(rt, map, writer, &guard, (key, value)),
         Call::Remove(key) => value_of(map.remove(writer, &guard, &key)),

@@ -25,7 +25,7 @@ use std::thread::Threads;
 struct Plan {
     threads: usize,
     each: usize,
-    cells: u32,
+    cells: u16,
 }
 
 /// Some cells wait to be free again.
@@ -68,11 +68,6 @@ impl Shelf {
     /// The pointer of this turn.
     fn pointer(&self, turn: usize) -> &Atomic<Probe> {
         if turn % 2 == 0 { &self.even } else { &self.odd }
-    }
-
-    /// The next value.
-    fn probe(&self) -> Probe {
-        Probe::new(self.next.fetch_add(1, SeqCst), &self.counts)
     }
 
     /// Counts what is wrong of a value that was found.
@@ -120,7 +115,8 @@ fn go_round<J: PostSet>(
     for index in 0..READS {
         read(store, shelf, guard, index ^ turn);
     }
-    if replace(writer, shelf.pointer(turn), guard, shelf.probe()).is_none() {
+    let probe = Probe::new(shelf.next.fetch_add(1, SeqCst), &shelf.counts);
+    if replace(writer, shelf.pointer(turn), guard, probe).is_none() {
         shelf.placed.fetch_add(1, SeqCst);
     }
 }
@@ -156,7 +152,7 @@ fn free_cells<J: PostSet>(
     alloc: Global,
     store: &Store<'_, J, Probe>,
     shelf: &Shelf,
-    cells: u32,
+    cells: u16,
 ) -> u64 {
     let mut session = session(rt, store.domain());
     let mut writer = writer(rt, alloc, store);
@@ -169,7 +165,8 @@ fn free_cells<J: PostSet>(
     let guard = pin(rt, &mut session);
     let mut free: u64 = 0;
     for _ in 0..u64::from(cells).wrapping_add(1) {
-        if writer.place(&guard, shelf.probe()).is_ok() {
+        let probe = Probe::new(shelf.next.fetch_add(1, SeqCst), &shelf.counts);
+        if writer.place(&guard, probe).is_ok() {
             free = free.wrapping_add(1);
         }
     }
@@ -202,7 +199,7 @@ fn start<J: PostSet + Send + Sync, R: Threads + Wait + Abort + Sync>(
     requires { made.posts.items ≡ J.posts }
 {
     let domain = Domain::new(Posts::<J>::of(alloc, made)?);
-    let mut cells = LentCells::new(alloc, plan.cells, &domain)?;
+    let mut cells = LentCells::new(alloc, u32::from(plan.cells), &domain)?;
     let store = Store::new(alloc, &domain, &mut cells)?;
     run_at_once(rt, alloc, &store, shelf, plan);
     let free = free_cells(rt, alloc, &store, shelf, plan.cells);
