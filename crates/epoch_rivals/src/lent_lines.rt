@@ -8,7 +8,7 @@ use epoch_lend::domain::Domain;
 use epoch_lend::readers::posts::{Made, PostSet, Posts};
 use epoch_lend::session::LendingGuard;
 use epoch_lend_pointers::{Store, Writer};
-use epoch_lists::{LendingQueue, LendingStack, ListNode};
+use epoch_lists::{LendingQueue, LendingStack, LentNode, ListNode};
 use std::alloc::Global;
 use std::io;
 use std::marker::Brand;
@@ -22,81 +22,92 @@ const TRIES: u32 = 1_000_000;
 // So many that no call is refused while a thread is stopped that is pinned.
 const CELLS: u32 = 1_048_576;
 
-type NumberNode = ListNode<u64>;
+/// A node that is made of a number. As in the module `lent_ordered`, the sides are written for any type of such nodes.
+trait LineNode: LentNode {
+    /// Makes a node of this number.
+    fn of(number: u64) -> Self;
+}
+
+impl LineNode for ListNode<u64> {
+    #[inline(always)]
+    fn of(number: u64) -> ListNode<u64> {
+        ListNode::new(number)
+    }
+}
 
 /// A queue of lent nodes.
 #[derive(Drop)]
-struct NumberQueue<'q, 's, J: PostSet> {
+struct NumberQueue<'q, 's, J: PostSet, N> {
     alloc: Global,
-    store: &'q Store<'s, J, NumberNode>,
-    queue: LendingQueue<'q, 's, J, NumberNode>,
+    store: &'q Store<'s, J, N>,
+    queue: LendingQueue<'q, 's, J, N>,
 }
 
-impl<'q, 's, J: PostSet + Send + Sync> Side for NumberQueue<'q, 's, J> {
-    type Own = LentOwn<'q, 's, J, NumberNode>;
+impl<'q, 's, J: PostSet, N: LineNode> Side for NumberQueue<'q, 's, J, N> {
+    type Own = LentOwn<'q, 's, J, N>;
 
-    fn join(&self) -> Option<LentOwn<'q, 's, J, NumberNode>> {
+    fn join(&self) -> Option<LentOwn<'q, 's, J, N>> {
         LentOwn::join(self.alloc, self.store)
     }
 
     fn turns<R: Clock + Wait>(
         &self,
         _rt: &R,
-        own: &mut LentOwn<'q, 's, J, NumberNode>,
+        own: &mut LentOwn<'q, 's, J, N>,
         part: RoundPart,
     ) -> u64 {
         own.queue_pairs(&self.queue, part.turns)
     }
 
-    fn leave<R: Wait>(&self, rt: &R, own: LentOwn<'q, 's, J, NumberNode>) {
+    fn leave<R: Wait>(&self, rt: &R, own: LentOwn<'q, 's, J, N>) {
         own.leave(rt);
     }
 }
 
 /// A stack of lent nodes.
 #[derive(Drop)]
-struct NumberStack<'q, 's, J: PostSet> {
+struct NumberStack<'q, 's, J: PostSet, N> {
     alloc: Global,
-    store: &'q Store<'s, J, NumberNode>,
-    stack: LendingStack<'q, 's, J, NumberNode>,
+    store: &'q Store<'s, J, N>,
+    stack: LendingStack<'q, 's, J, N>,
 }
 
-impl<'q, 's, J: PostSet + Send + Sync> Side for NumberStack<'q, 's, J> {
-    type Own = LentOwn<'q, 's, J, NumberNode>;
+impl<'q, 's, J: PostSet, N: LineNode> Side for NumberStack<'q, 's, J, N> {
+    type Own = LentOwn<'q, 's, J, N>;
 
-    fn join(&self) -> Option<LentOwn<'q, 's, J, NumberNode>> {
+    fn join(&self) -> Option<LentOwn<'q, 's, J, N>> {
         LentOwn::join(self.alloc, self.store)
     }
 
     fn turns<R: Clock + Wait>(
         &self,
         _rt: &R,
-        own: &mut LentOwn<'q, 's, J, NumberNode>,
+        own: &mut LentOwn<'q, 's, J, N>,
         part: RoundPart,
     ) -> u64 {
         own.stack_pairs(&self.stack, part.turns)
     }
 
-    fn leave<R: Wait>(&self, rt: &R, own: LentOwn<'q, 's, J, NumberNode>) {
+    fn leave<R: Wait>(&self, rt: &R, own: LentOwn<'q, 's, J, N>) {
         own.leave(rt);
     }
 }
 
 #[inline(always)]
-fn enqueue<'s, J: PostSet>(
-    queue: &LendingQueue<'_, 's, J, NumberNode>,
-    writer: &mut Writer<'_, 's, J, NumberNode>,
+fn enqueue<'s, J: PostSet, N: LineNode>(
+    queue: &LendingQueue<'_, 's, J, N>,
+    writer: &mut Writer<'_, 's, J, N>,
     guard: &LendingGuard<'_, J>,
     number: u64,
 ) {
-    let _ = queue.push(writer, guard, ListNode::new(number), TRIES);
+    let _ = queue.push(writer, guard, N::of(number), TRIES);
 }
 
 /// Returns whether there was a node.
 #[inline(always)]
-fn dequeue<'s, J: PostSet>(
-    queue: &LendingQueue<'_, 's, J, NumberNode>,
-    writer: &mut Writer<'_, 's, J, NumberNode>,
+fn dequeue<'s, J: PostSet, N: LineNode>(
+    queue: &LendingQueue<'_, 's, J, N>,
+    writer: &mut Writer<'_, 's, J, N>,
     guard: &LendingGuard<'_, J>,
 ) -> bool {
     match queue.pop(writer, guard, TRIES) {
@@ -106,20 +117,20 @@ fn dequeue<'s, J: PostSet>(
 }
 
 #[inline(always)]
-fn push<'s, J: PostSet>(
-    stack: &LendingStack<'_, 's, J, NumberNode>,
-    writer: &mut Writer<'_, 's, J, NumberNode>,
+fn push<'s, J: PostSet, N: LineNode>(
+    stack: &LendingStack<'_, 's, J, N>,
+    writer: &mut Writer<'_, 's, J, N>,
     guard: &LendingGuard<'_, J>,
     number: u64,
 ) {
-    let _ = stack.push(writer, guard, ListNode::new(number), TRIES);
+    let _ = stack.push(writer, guard, N::of(number), TRIES);
 }
 
 /// Returns whether there was a node.
 #[inline(always)]
-fn pop<'s, J: PostSet>(
-    stack: &LendingStack<'_, 's, J, NumberNode>,
-    writer: &mut Writer<'_, 's, J, NumberNode>,
+fn pop<'s, J: PostSet, N: LineNode>(
+    stack: &LendingStack<'_, 's, J, N>,
+    writer: &mut Writer<'_, 's, J, N>,
     guard: &LendingGuard<'_, J>,
 ) -> bool {
     match stack.pop(writer, guard, TRIES) {
@@ -128,9 +139,9 @@ fn pop<'s, J: PostSet>(
     }
 }
 
-impl<'q, 's, J: PostSet> LentOwn<'q, 's, J, NumberNode> {
+impl<'q, 's, J: PostSet, N: LineNode> LentOwn<'q, 's, J, N> {
     #[inline(never)]
-    fn queue_pairs(&mut self, queue: &LendingQueue<'_, 's, J, NumberNode>, turns: u64) -> u64 {
+    fn queue_pairs(&mut self, queue: &LendingQueue<'_, 's, J, N>, turns: u64) -> u64 {
         let mut done: u64 = 0;
         for number in 0..turns {
             let guard = self.session.pin();
@@ -145,7 +156,7 @@ impl<'q, 's, J: PostSet> LentOwn<'q, 's, J, NumberNode> {
     }
 
     #[inline(never)]
-    fn stack_pairs(&mut self, stack: &LendingStack<'_, 's, J, NumberNode>, turns: u64) -> u64 {
+    fn stack_pairs(&mut self, stack: &LendingStack<'_, 's, J, N>, turns: u64) -> u64 {
         let mut done: u64 = 0;
         for number in 0..turns {
             let guard = self.session.pin();
@@ -167,13 +178,11 @@ pub enum PairRow {
     Stack,
 }
 
-fn stack_rounds<R: Clock + Threads + Wait + Sync, J: PostSet + Send + Sync>(
-    rt: &R,
-    alloc: Global,
-    plan: RoundPlan,
-    store: &Store<'_, J, NumberNode>,
-    times: &mut [Nanos],
-) -> u64 {
+fn stack_rounds<
+    R: Clock + Threads + Wait + Sync,
+    J: PostSet + Send + Sync,
+    N: LineNode + Send + Sync,
+>(rt: &R, alloc: Global, plan: RoundPlan, store: &Store<'_, J, N>, times: &mut [Nanos]) -> u64 {
     let side = NumberStack {
         alloc,
         store,
@@ -182,18 +191,16 @@ fn stack_rounds<R: Clock + Threads + Wait + Sync, J: PostSet + Send + Sync>(
     all_rounds(rt, plan, &side, times)
 }
 
-fn queue_rounds<R: Clock + Threads + Wait + Sync, J: PostSet + Send + Sync>(
-    rt: &R,
-    alloc: Global,
-    plan: RoundPlan,
-    store: &Store<'_, J, NumberNode>,
-    times: &mut [Nanos],
-) -> u64 {
+fn queue_rounds<
+    R: Clock + Threads + Wait + Sync,
+    J: PostSet + Send + Sync,
+    N: LineNode + Send + Sync,
+>(rt: &R, alloc: Global, plan: RoundPlan, store: &Store<'_, J, N>, times: &mut [Nanos]) -> u64 {
     let Some(own) = LentOwn::join(alloc, store) else {
         return 0;
     };
     let mut making = own;
-    let made = LendingQueue::new(&mut making.writer, ListNode::new(0));
+    let made = LendingQueue::new(&mut making.writer, N::of(0));
     making.leave(rt);
     let Ok(queue) = made else {
         return 0;
@@ -206,12 +213,12 @@ fn queue_rounds<R: Clock + Threads + Wait + Sync, J: PostSet + Send + Sync>(
     all_rounds(rt, plan, &side, times)
 }
 
-fn rounds_in<R: Clock + Threads + Wait + Sync, J: PostSet + Send + Sync>(
+fn rounds_in<R: Clock + Threads + Wait + Sync, J: PostSet + Send + Sync, N: LineNode + Send + Sync>(
     rt: &R,
     alloc: Global,
     plan: RoundPlan,
     row: PairRow,
-    store: &Store<'_, J, NumberNode>,
+    store: &Store<'_, J, N>,
     times: &mut [Nanos],
 ) -> u64 {
     match row {
@@ -220,7 +227,11 @@ fn rounds_in<R: Clock + Threads + Wait + Sync, J: PostSet + Send + Sync>(
     }
 }
 
-fn rounds_over<R: Clock + Threads + Wait + Sync, J: PostSet + Send + Sync>(
+fn rounds_over<
+    R: Clock + Threads + Wait + Sync,
+    J: PostSet + Send + Sync,
+    N: LineNode + Send + Sync,
+>(
     rt: &R,
     alloc: Global,
     made: Made,
@@ -231,7 +242,7 @@ fn rounds_over<R: Clock + Threads + Wait + Sync, J: PostSet + Send + Sync>(
     requires { made.posts.items ≡ J.posts }
 {
     let domain = Domain::new(Posts::<J>::of(alloc, made)?);
-    let mut cells = cells_in(alloc, CELLS, CELLS, &domain)?;
+    let mut cells = cells_in::<J, N>(alloc, CELLS, CELLS, &domain)?;
     let store = store_of(alloc, &domain, &mut cells)?;
     let done = rounds_in(rt, alloc, plan, row, &store, times);
     let _ = store.end();
@@ -247,5 +258,5 @@ pub fn rounds<R: Clock + Threads + Wait + Sync>(
     times: &mut [Nanos],
 ) -> io::Result<u64> {
     let made = made_for(alloc, plan)?;
-    rounds_over::<R, Brand>(rt, alloc, made, plan, row, times)
+    rounds_over::<R, Brand, ListNode<u64>>(rt, alloc, made, plan, row, times)
 }

@@ -9,7 +9,7 @@ use epoch_lend::domain::Domain;
 use epoch_lend::readers::posts::{Made, PostSet, Posts};
 use epoch_lend::session::{LendingGuard, Session};
 use epoch_lend_pointers::{Store, Writer};
-use epoch_map::{GrowingMap, LentEntry};
+use epoch_map::{GrowingMap, LentEntry, MapNode};
 use std::alloc::Global;
 use std::io;
 use std::marker::Brand;
@@ -20,7 +20,27 @@ use std::time::Clock;
 /// Cells beside those of the keys, for nodes that are removed and wait for guards.
 const SPARE: u64 = 65_536;
 
-type NumberEntry = LentEntry<u64, u64>;
+/// A node that has a number as its key and as its value. As in the module `lent_ordered`, the side is written for any
+/// type of such nodes.
+trait KeyNode: MapNode<Key = u64> {
+    /// Makes a node of this number.
+    fn of(number: u64) -> Self;
+
+    /// Returns the value.
+    fn number(&self) -> u64;
+}
+
+impl KeyNode for LentEntry<u64, u64> {
+    #[inline(always)]
+    fn of(number: u64) -> LentEntry<u64, u64> {
+        LentEntry::new(number, number)
+    }
+
+    #[inline(always)]
+    fn number(&self) -> u64 {
+        *self.value()
+    }
+}
 
 /// What is done with a map: look-ups among 1,000 keys; among 100,000, in cells that were made at first or added one
 /// block after another; the same beside changes; or look-ups among a million.
@@ -47,18 +67,18 @@ impl MapRow {
 /// A map that has `KEYS` of the keys below `SPACE` at first. If there are more keys than that, a tenth of the calls
 /// change the map.
 #[derive(Drop)]
-struct NumberMap<'q, 's, J: PostSet, const KEYS: u64, const SPACE: u64> {
+struct NumberMap<'q, 's, J: PostSet, N, const KEYS: u64, const SPACE: u64> {
     alloc: Global,
-    store: &'q Store<'s, J, NumberEntry>,
-    map: GrowingMap<'q, 's, J, NumberEntry>,
+    store: &'q Store<'s, J, N>,
+    map: GrowingMap<'q, 's, J, N>,
 }
 
 /// Makes a call, and returns whether it did what it should. A look-up should find its key's value, or may miss it if
 /// keys are removed.
 #[inline(always)]
-fn call<'s, J: PostSet, const KEYS: u64, const SPACE: u64>(
-    map: &GrowingMap<'_, 's, J, NumberEntry>,
-    writer: &mut Writer<'_, 's, J, NumberEntry>,
+fn call<'s, J: PostSet, N: KeyNode, const KEYS: u64, const SPACE: u64>(
+    map: &GrowingMap<'_, 's, J, N>,
+    writer: &mut Writer<'_, 's, J, N>,
     guard: &LendingGuard<'_, J>,
     number: u64,
 ) -> bool {
@@ -66,22 +86,22 @@ fn call<'s, J: PostSet, const KEYS: u64, const SPACE: u64>(
     let chosen = if SPACE > KEYS { percent(number) } else { 0 };
     if chosen < 90 {
         return match map.get(guard, &key) {
-            Some(node) => *node.value() == key,
+            Some(node) => node.number() == key,
             None => SPACE > KEYS,
         };
     }
     if chosen < 95 {
-        return map.insert(writer, guard, LentEntry::new(key, key)).is_ok();
+        return map.insert(writer, guard, N::of(key)).is_ok();
     }
     map.remove(writer, guard, &key).is_ok()
 }
 
 /// Makes the calls of one thread, under one guard that is renewed before each.
 #[inline(never)]
-fn calls<'s, J: PostSet, const KEYS: u64, const SPACE: u64>(
-    map: &GrowingMap<'_, 's, J, NumberEntry>,
+fn calls<'s, J: PostSet, N: KeyNode, const KEYS: u64, const SPACE: u64>(
+    map: &GrowingMap<'_, 's, J, N>,
     session: &mut Session<'s, J>,
-    writer: &mut Writer<'_, 's, J, NumberEntry>,
+    writer: &mut Writer<'_, 's, J, N>,
     part: RoundPart,
 ) -> u64
     requires free { IsSome session.old.reader }
@@ -92,7 +112,7 @@ fn calls<'s, J: PostSet, const KEYS: u64, const SPACE: u64>(
     let mut guard = session.pin();
     for _ in 0..part.turns {
         guard = guard.renew();
-        if call::<J, KEYS, SPACE>(map, writer, &guard, draw.number()) {
+        if call::<J, N, KEYS, SPACE>(map, writer, &guard, draw.number()) {
             done = done.wrapping_add(1);
         }
     }
@@ -100,32 +120,32 @@ fn calls<'s, J: PostSet, const KEYS: u64, const SPACE: u64>(
     done
 }
 
-impl<'q, 's, J: PostSet + Send + Sync, const KEYS: u64, const SPACE: u64> Side
-    for NumberMap<'q, 's, J, KEYS, SPACE> {
-    type Own = LentOwn<'q, 's, J, NumberEntry>;
+impl<'q, 's, J: PostSet, N: KeyNode, const KEYS: u64, const SPACE: u64> Side
+    for NumberMap<'q, 's, J, N, KEYS, SPACE> {
+    type Own = LentOwn<'q, 's, J, N>;
 
-    fn join(&self) -> Option<LentOwn<'q, 's, J, NumberEntry>> {
+    fn join(&self) -> Option<LentOwn<'q, 's, J, N>> {
         LentOwn::join(self.alloc, self.store)
     }
 
     fn turns<R: Clock + Wait>(
         &self,
         _rt: &R,
-        own: &mut LentOwn<'q, 's, J, NumberEntry>,
+        own: &mut LentOwn<'q, 's, J, N>,
         part: RoundPart,
     ) -> u64 {
-        calls::<J, KEYS, SPACE>(&self.map, &mut own.session, &mut own.writer, part)
+        calls::<J, N, KEYS, SPACE>(&self.map, &mut own.session, &mut own.writer, part)
     }
 
-    fn leave<R: Wait>(&self, rt: &R, own: LentOwn<'q, 's, J, NumberEntry>) {
+    fn leave<R: Wait>(&self, rt: &R, own: LentOwn<'q, 's, J, N>) {
         own.leave(rt);
     }
 }
 
-impl<'q, 's, J: PostSet> LentOwn<'q, 's, J, NumberEntry> {
-    fn insert(&mut self, map: &GrowingMap<'_, 's, J, NumberEntry>, key: u64) {
+impl<'q, 's, J: PostSet, N: KeyNode> LentOwn<'q, 's, J, N> {
+    fn insert(&mut self, map: &GrowingMap<'_, 's, J, N>, key: u64) {
         let guard = self.session.pin();
-        let _ = map.insert(&mut self.writer, &guard, LentEntry::new(key, key));
+        let _ = map.insert(&mut self.writer, &guard, N::of(key));
         self.session.unpin(guard);
     }
 }
@@ -135,13 +155,8 @@ fn rounds_in<
     const SPACE: u64,
     R: Clock + Threads + Wait + Sync,
     J: PostSet + Send + Sync,
->(
-    rt: &R,
-    alloc: Global,
-    plan: RoundPlan,
-    store: &Store<'_, J, NumberEntry>,
-    times: &mut [Nanos],
-) -> u64 {
+    N: KeyNode + Send + Sync,
+>(rt: &R, alloc: Global, plan: RoundPlan, store: &Store<'_, J, N>, times: &mut [Nanos]) -> u64 {
     let Ok(map) = GrowingMap::new(alloc, store) else {
         return 0;
     };
@@ -152,7 +167,7 @@ fn rounds_in<
         }
         filling.leave(rt);
     }
-    let shared = NumberMap::<J, KEYS, SPACE> { alloc, store, map };
+    let shared = NumberMap::<J, N, KEYS, SPACE> { alloc, store, map };
     all_rounds(rt, plan, &shared, times)
 }
 
@@ -161,7 +176,11 @@ fn cells_for(keys: u64) -> u32 {
     u32::try_from(keys.saturating_add(SPARE)).unwrap_or(u32::MAX)
 }
 
-fn rounds_over<R: Clock + Threads + Wait + Sync, J: PostSet + Send + Sync>(
+fn rounds_over<
+    R: Clock + Threads + Wait + Sync,
+    J: PostSet + Send + Sync,
+    N: KeyNode + Send + Sync,
+>(
     rt: &R,
     alloc: Global,
     made: Made,
@@ -177,15 +196,15 @@ fn rounds_over<R: Clock + Threads + Wait + Sync, J: PostSet + Send + Sync>(
         MapRow::GrownLooks => 0,
         _ => count,
     };
-    let mut cells = cells_in(alloc, first, count, &domain)?;
+    let mut cells = cells_in::<J, N>(alloc, first, count, &domain)?;
     let store = store_of(alloc, &domain, &mut cells)?;
     let done = match row {
-        MapRow::FewLooks => rounds_in::<1_000, 1_000, R, J>(rt, alloc, plan, &store, times),
-        MapRow::Looks | MapRow::GrownLooks => rounds_in::<100_000, 100_000, R, J>(
+        MapRow::FewLooks => rounds_in::<1_000, 1_000, R, J, N>(rt, alloc, plan, &store, times),
+        MapRow::Looks | MapRow::GrownLooks => rounds_in::<100_000, 100_000, R, J, N>(
             rt, alloc, plan, &store, times,
         ),
-        MapRow::Changes => rounds_in::<100_000, 200_000, R, J>(rt, alloc, plan, &store, times),
-        MapRow::ManyLooks => rounds_in::<1_000_000, 1_000_000, R, J>(
+        MapRow::Changes => rounds_in::<100_000, 200_000, R, J, N>(rt, alloc, plan, &store, times),
+        MapRow::ManyLooks => rounds_in::<1_000_000, 1_000_000, R, J, N>(
             rt, alloc, plan, &store, times,
         ),
     };
@@ -203,5 +222,5 @@ pub fn rounds<R: Clock + Threads + Wait + Sync>(
     times: &mut [Nanos],
 ) -> io::Result<u64> {
     let made = made_for(alloc, plan)?;
-    rounds_over::<R, Brand>(rt, alloc, made, plan, row, times)
+    rounds_over::<R, Brand, LentEntry<u64, u64>>(rt, alloc, made, plan, row, times)
 }

@@ -2,7 +2,6 @@
 mod calls;
 mod config;
 mod counted;
-mod deque;
 mod owners;
 mod service;
 mod sorted_list;

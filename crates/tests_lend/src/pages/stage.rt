@@ -1,7 +1,7 @@
 //! A domain for the pages whose values are lent, and calls of sessions and writers.
 ghost use Rattle.std.specs.Prelude.{◌≡◌, IsSome};
 
-use crate::pages::{config, deque, owners, service, sorted_list, work_queue};
+use crate::pages::{config, owners, service, sorted_list, work_queue};
 use epoch_lend_pointers::{Domain, LentCells, Made, PostSet, Posts, Session};
 use std::alloc::Global;
 use std::marker::Brand;
@@ -15,7 +15,6 @@ use std::thread::Threads;
 #[derive(Clone, Copy)]
 pub(crate) enum Page {
     Config,
-    Deque,
     Owners,
     Service,
     SortedList,
@@ -59,7 +58,6 @@ fn begin<J: PostSet + Send + Sync, R: Abort + Threads + Wait + Sync>(
     };
     match page {
         Page::Config => config::run(rt, alloc, &domain, &tally),
-        Page::Deque => deque::run(rt, alloc, &domain, &tally),
         Page::Owners => owners::run(rt, alloc, &domain, &tally),
         Page::Service => service::run(rt, alloc, &domain),
         Page::SortedList => sorted_list::run(rt, alloc, &domain, &tally),

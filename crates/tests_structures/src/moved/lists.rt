@@ -13,7 +13,7 @@ use epoch_cells::{Fault, Refused};
 use epoch_lend::readers::posts::{Made, PostSet};
 use epoch_lend::session::LendingGuard;
 use epoch_lend_pointers::{Store, Writer};
-use epoch_lists::{LendingQueue, LendingStack, OwnedNode};
+use epoch_lists::{LendingQueue, LendingStack, MovesValue, OwnedNode};
 use std::alloc::Global;
 use std::marker::Brand;
 use std::process::Abort;
@@ -25,18 +25,19 @@ use std::thread::Threads;
 /// A node of a stack or a queue.
 type Link = OwnedNode<Token>;
 
-/// A stack or a queue.
+/// A stack or a queue. It is written for any type of nodes: that threads may share it would meet a limit of the checker
+/// where the type is known, which compares all that is known of a node once for each reference to one.
 #[derive(Drop)]
-enum MovedPile<'q, 's, J: PostSet> {
-    Stack(LendingStack<'q, 's, J, Link>),
-    Queue(LendingQueue<'q, 's, J, Link>),
+enum MovedPile<'q, 's, J: PostSet, N> {
+    Stack(LendingStack<'q, 's, J, N>),
+    Queue(LendingQueue<'q, 's, J, N>),
 }
 
-impl<'s, J: PostSet> MovedPile<'_, 's, J> {
+impl<'s, J: PostSet, N: MovesValue<Value = Token>> MovedPile<'_, 's, J, N> {
     /// Pushes the value in one try.
     fn push(
         &self,
-        writer: &mut Writer<'_, 's, J, Link>,
+        writer: &mut Writer<'_, 's, J, N>,
         guard: &LendingGuard<'_, J>,
         token: Token,
     ) -> Result<(), Refused<Token>> {
@@ -49,7 +50,7 @@ impl<'s, J: PostSet> MovedPile<'_, 's, J> {
     /// Pops a value in one try.
     fn pop(
         &self,
-        writer: &mut Writer<'_, 's, J, Link>,
+        writer: &mut Writer<'_, 's, J, N>,
         guard: &LendingGuard<'_, J>,
     ) -> Result<Option<Token>, Fault> {
         match self {
@@ -60,12 +61,12 @@ impl<'s, J: PostSet> MovedPile<'_, 's, J> {
 }
 
 /// A participant of a stack, or of a queue.
-struct LentSeat<'p, 'q, 's, J: PostSet> {
-    pile: &'p MovedPile<'q, 's, J>,
-    part: Part<'q, 's, J, Link>,
+struct LentSeat<'p, 'q, 's, J: PostSet, N> {
+    pile: &'p MovedPile<'q, 's, J, N>,
+    part: Part<'q, 's, J, N>,
 }
 
-impl<J: PostSet> Seat for LentSeat<'_, '_, '_, J> {
+impl<J: PostSet, N: MovesValue<Value = Token>> Seat for LentSeat<'_, '_, '_, J, N> {
     fn push<R: Abort>(
         &mut self,
         rt: &R,
@@ -88,22 +89,22 @@ impl<J: PostSet> Seat for LentSeat<'_, '_, '_, J> {
     }
 }
 
-/// An empty stack, or an empty queue, for whose first node a cell is free.
-fn empty_pile<'q, 's, J: PostSet>(
+/// An empty stack, or an empty queue with this first node, for which a cell is free.
+fn empty_pile<'q, 's, J: PostSet, N: MovesValue>(
     rt: &impl Abort,
-    store: &'q Store<'s, J, Link>,
-    part: &mut Part<'q, 's, J, Link>,
-    is_queue: bool,
-) -> MovedPile<'q, 's, J> {
-    if !is_queue {
+    store: &'q Store<'s, J, N>,
+    part: &mut Part<'q, 's, J, N>,
+    first: Option<N>,
+) -> MovedPile<'q, 's, J, N> {
+    let Some(first) = first else {
         return MovedPile::Stack(LendingStack::new(store));
-    }
-    let made = LendingQueue::new(&mut part.writer, OwnedNode::empty());
+    };
+    let made = LendingQueue::new(&mut part.writer, first);
     MovedPile::Queue(want_ok(rt, "a cell for the first node", made))
 }
 
 /// The part of a participant that makes no further call.
-fn part_of<'q, 's, J: PostSet>(seat: LentSeat<'_, 'q, 's, J>) -> Part<'q, 's, J, Link> {
+fn part_of<'q, 's, J: PostSet, N>(seat: LentSeat<'_, 'q, 's, J, N>) -> Part<'q, 's, J, N> {
     let LentSeat { pile: _, part } = seat;
     part
 }
@@ -127,8 +128,13 @@ impl Scene for MovedScene<'_> {
         store: &Store<'s, J, Link>,
         _others: &Store<'s, J, Link>,
     ) {
+        let first = if self.is_queue {
+            Some(Link::empty())
+        } else {
+            None
+        };
         let mut part = join(rt, alloc, store);
-        let pile = empty_pile(rt, store, &mut part, self.is_queue);
+        let pile = empty_pile(rt, store, &mut part, first);
         let mut seat = LentSeat { pile: &pile, part };
         push_values(rt, alloc, &mut seat, (3, 3, self.drops));
         pop_values(rt, &mut seat, self.popped);
@@ -173,11 +179,11 @@ fn values_left_in_lent_nodes_are_dropped_by_the_end(rt: HostRuntime) {
 const EACH: u64 = 500;
 
 /// One thread: pushes each of these values, and pops one after each.
-fn work<'q, 's, J: PostSet, R: Abort + Wait>(
+fn work<'q, 's, J: PostSet, N: MovesValue<Value = Token>, R: Abort + Wait>(
     rt: &R,
     alloc: Global,
-    store: &'q Store<'s, J, Link>,
-    pile: &MovedPile<'q, 's, J>,
+    store: &'q Store<'s, J, N>,
+    pile: &MovedPile<'q, 's, J, N>,
     both: (&[AtomicU64], &Drops),
     first: u64,
 ) {
@@ -187,13 +193,16 @@ fn work<'q, 's, J: PostSet, R: Abort + Wait>(
     leave(rt, part_of(seat));
 }
 
-fn race<'q, 's, J: PostSet + Send + Sync, R: Abort + Threads + Wait + Sync>(
+fn race<'q, 's, J: PostSet + Send + Sync, N, R: Abort + Threads + Wait + Sync>(
     rt: &R,
     alloc: Global,
-    store: &'q Store<'s, J, Link>,
-    pile: &MovedPile<'q, 's, J>,
+    store: &'q Store<'s, J, N>,
+    pile: &MovedPile<'q, 's, J, N>,
     both: (&[AtomicU64], &Drops),
-) {
+)
+where
+    N: MovesValue<Value = Token> + Send + Sync,
+{
     thread::scope(thread::scope_env(), rt, |scope| {
         for thread in 0..8u64 {
             let first = thread.wrapping_mul(EACH);
@@ -203,21 +212,24 @@ fn race<'q, 's, J: PostSet + Send + Sync, R: Abort + Threads + Wait + Sync>(
 }
 
 // Each value comes off once, and nothing but a queue's first node is left.
-fn begin<J: PostSet + Send + Sync, R: Abort + Threads + Wait + Sync>(
+fn begin<J: PostSet + Send + Sync, N, R: Abort + Threads + Wait + Sync>(
     rt: &R,
     alloc: Global,
     made: Made,
-    is_queue: bool,
+    first: Option<N>,
     counts: &[AtomicU64],
     drops: &Drops,
 )
+where
+    N: MovesValue<Value = Token> + Send + Sync,
     requires { made.posts.items ≡ J.posts }
 {
     let domain = domain_over::<J>(rt, alloc, made);
     let mut cells = cells_in(rt, alloc, &domain, 1_024);
     let store = store_of(rt, alloc, &domain, &mut cells);
     let mut part = join(rt, alloc, &store);
-    let pile = empty_pile(rt, &store, &mut part, is_queue);
+    let left = if first.is_some() { 1 } else { 0 };
+    let pile = empty_pile(rt, &store, &mut part, first);
     race(rt, alloc, &store, &pile, (counts, drops));
     let mut seat = LentSeat { pile: &pile, part };
     pop_the_rest(rt, &mut seat, counts);
@@ -225,7 +237,6 @@ fn begin<J: PostSet + Send + Sync, R: Abort + Threads + Wait + Sync>(
     rounds(rt, &mut part, AFTER_A_RACE);
     leave(rt, part);
     drop(pile);
-    let left = if is_queue { 1 } else { 0 };
     want(rt, "how many nodes are left", store.end(), left);
 }
 
@@ -233,7 +244,8 @@ fn play_race<R: Abort + Threads + Wait + Sync>(rt: &R, alloc: Global, is_queue: 
     let counts = counts_of(rt, alloc, 8 * EACH);
     let drops = drops_of(rt, alloc, 8 * EACH);
     let made = posts(rt, alloc);
-    begin::<Brand, R>(rt, alloc, made, is_queue, &counts, &drops);
+    let first = if is_queue { Some(Link::empty()) } else { None };
+    begin::<Brand, Link, R>(rt, alloc, made, first, &counts, &drops);
     want_each(rt, "each value was dropped once", drops.as_slice(), 1);
     want_each(rt, "each value came off once", &counts, 1);
 }
