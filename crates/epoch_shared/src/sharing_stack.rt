@@ -15,7 +15,7 @@ use std::alloc::Global;
 use std::marker::Brand;
 use std::thread::Threads;
 
-/// Makes a stack with room for this many values at a time, starts this many threads that share it, and comes back when
+/// Makes a stack with room for at least this many values, starts this many threads that share it, and comes back when
 /// they are done. Then what is left is dropped. Returns how many threads took part.
 ///
 /// The crew is called, and faults are told, as by [`share_value`](crate::share_value).

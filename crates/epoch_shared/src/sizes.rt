@@ -45,6 +45,6 @@ pub struct SharedSizes {
     pub threads: u16,
     /// How many entries the map has at most, if it is a cache. `None`: as many as are inserted.
     pub capacity: Option<u32>,
-    /// How many messages wait in the channel at a time.
+    /// How many messages can wait in the channel at a time, at least.
     pub messages: u32,
 }
