@@ -22,7 +22,7 @@ impl<'q, 's, J: PostSet, T: Drop> Writer<'q, 's, J, T> {
     /// more. `None`: every cell was seen in use, or kept by other writers for their next values; or memory for more
     /// cells was refused, or another thread is about to add them.
     ///
-    /// Give it to [`Writer::place_in`], or back to [`Writer::keep_room`].
+    /// What isn't used goes back to [`Writer::keep_room`].
     #[inline(always)]
     pub fn take_room<S: PinSteps, M: StoreSteps<T>>(&mut self) -> Option<LentRoom<'s, J, T>>
     where
@@ -115,10 +115,22 @@ impl<'q, 's, J: PostSet, T: Drop> Writer<'q, 's, J, T> {
         ensures placed { IfOk result (λ pointer. IsSomeAnd pointer.name
             (λ name. M.did J.posts self.old.store.now.number (Places name value))) }
         ensures home { IfOk result (λ pointer. IsUnder self.old.store.now.number pointer.home) }
+        // A value that isn't placed is handed back with `CellsFull`. The pointer to a placed value has tag 0, is of the
+        // writer's store, and has the name under which the value was shown there.
         ensures full { IfErr result (λ refused. (refused.fault ≡ CellsFull) × (refused.value ≡ value)) }
     {
-        let room = self.take_room::<S, M>();
-        self.place_in::<M>(guard, room, value)
+        let _ = guard;
+        let Some(room) = self.take_room::<S, M>() else {
+            return Err(Refused {
+                fault: Fault::CellsFull,
+                value,
+            });
+        };
+        let store = self.store;
+        match M::place_in(store, room, value) {
+            Ok(name) => Ok(Shared::named_at(name, store.home())),
+            Err(refused) => Err(refused),
+        }
     }
 
     /// Does what [`Writer::place`] does, and returns a witness, too, that this value was placed under the pointer's
@@ -188,40 +200,5 @@ impl<'q, 's, J: PostSet, T: Drop> Writer<'q, 's, J, T> {
         let slot = room.position();
         room.release();
         slot
-    }
-
-    /// Places the value in this free cell, by one store, and returns the pointer to it, with tag 0.
-    ///
-    /// `CellsFull`: there is none, or it has had its last turn. The value is handed back.
-    #[inline(always)]
-    pub fn place_in<'g, M: StoreSteps<T>>(
-        &self,
-        guard: &'g LendingGuard<'_, J>,
-        room: Option<LentRoom<'_, J, T>>,
-        value: T,
-    ) -> Result<Shared<'g, T>, Refused<T>>
-    where
-        'q: 'g,
-        T: HasStoreSteps<M>,
-        ensures tag { IfOk result (λ pointer. pointer.tag ≡ 0) }
-        ensures placed { IfOk result (λ pointer. IsSomeAnd pointer.name
-            (λ name. M.did J.posts self.now.store.now.number (Places name value))) }
-        ensures home { IfOk result (λ pointer. IsUnder self.now.store.now.number pointer.home) }
-        // A value that isn't placed is handed back with `CellsFull`. The pointer to a placed value has tag 0, is of the
-        // writer's store, and has the name under which the value was shown there.
-        ensures full { IfErr result (λ refused. (refused.fault ≡ CellsFull) × (refused.value ≡ value)) }
-    {
-        let _ = guard;
-        let Some(room) = room else {
-            return Err(Refused {
-                fault: Fault::CellsFull,
-                value,
-            });
-        };
-        let store = self.store;
-        match M::place_in(store, room, value) {
-            Ok(name) => Ok(Shared::named_at(name, store.home())),
-            Err(refused) => Err(refused),
-        }
     }
 }

@@ -1,5 +1,5 @@
 //! Readers on one thread: the posts of a set, and arrays of cells that are used again.
-use crate::sessions::{goes_with_the_clock, takes_posts};
+use crate::sessions::{goes_with_the_clock, pins_for_closures, takes_posts};
 use crate::wants::want;
 use epoch_lend::array::cells::SlotTurn;
 use epoch_lend::array::growing::GrowingCells;
@@ -218,6 +218,7 @@ impl<R: Abort> DomainWork for OnOneThread<'_, R> {
         holds_a_bag_back(rt, alloc, posts, &others);
         takes_posts(rt, domain);
         goes_with_the_clock(rt, domain);
+        pins_for_closures(rt, domain);
     }
 }
 

@@ -3,11 +3,20 @@ use crate::wants::want;
 use epoch_lend::domain::Domain;
 use epoch_lend::readers::posts::PostSet;
 use epoch_lend::session::{LendingGuard, Session};
+use epoch_lend_pointers::{ScopedSession, pinned, staying};
 use std::process::Abort;
 
 /// A session, for which a post is free.
 pub(crate) fn session<'d, J: PostSet>(rt: &impl Abort, domain: &'d Domain<J>) -> Session<'d, J> {
     domain.session().expect(rt, "a free post")
+}
+
+/// A session for closures, for which a post is free.
+pub(crate) fn scoped<'d, J: PostSet>(
+    rt: &impl Abort,
+    domain: &'d Domain<J>,
+) -> ScopedSession<'d, J> {
+    ScopedSession::of(domain).expect(rt, "a free post")
 }
 
 /// Pins the session, of which no guard is out.
@@ -90,4 +99,50 @@ pub(crate) fn goes_with_the_clock<J: PostSet>(rt: &impl Abort, domain: &Domain<J
     want(rt, "until it is back", seen(domain), (3, 3));
     second.unpin(late);
     want(rt, "then none is pinned", seen(domain), (3, u64::MAX));
+}
+
+/// The epoch in which this session pins now, and what is seen meanwhile.
+fn seen_in<J: PostSet>(
+    session: &mut ScopedSession<'_, J>,
+    domain: &Domain<J>,
+) -> (u64, (u64, u64)) {
+    pinned(session, |guard| (epoch_of(guard), seen(domain)))
+}
+
+/// What is seen during a stay: before its first pin, after that, and when the clock has gone on and it pins again.
+fn seen_during<J: PostSet>(
+    session: &mut ScopedSession<'_, J>,
+    domain: &Domain<J>,
+) -> [(u64, u64); 4] {
+    staying(session, |session| {
+        let before = seen(domain);
+        let _ = seen_in(session, domain);
+        let after = seen(domain);
+        domain.tick();
+        let behind = seen(domain);
+        let _ = staying(session, |session| seen_in(session, domain));
+        [before, after, behind, seen(domain)]
+    })
+}
+
+/// A session for closures is pinned while one runs, or until its stay is over.
+pub(crate) fn pins_for_closures<J: PostSet>(rt: &impl Abort, domain: &Domain<J>) {
+    let mut first = scoped(rt, domain);
+    let second = scoped(rt, domain);
+    let third = ScopedSession::of(domain);
+    want(rt, "a third session finds no post", third.is_none(), true);
+    drop(second);
+    want(rt, "a dropped one gave its own", has_post(domain), true);
+    let (clock, none) = seen(domain);
+    want(rt, "no session is pinned", none, u64::MAX);
+    let during = seen_in(&mut first, domain);
+    want(rt, "one is", during, (clock, (clock, clock)));
+    want(rt, "until the closure is over", seen(domain), (clock, none));
+    let next = clock.wrapping_add(1);
+    let during = seen_during(&mut first, domain);
+    let wanted = [(clock, none), (clock, clock), (next, clock), (next, next)];
+    want(rt, "a stay goes on, and renews its pin", during, wanted);
+    want(rt, "until it is over", seen(domain), (next, none));
+    drop(first);
+    want(rt, "it gave its post back, too", has_post(domain), true);
 }

@@ -9,6 +9,8 @@ mod memory;
 mod refusals;
 pub mod shares;
 #[cfg(test)]
+mod shop;
+#[cfg(test)]
 mod stage;
 #[cfg(test)]
 mod stalled;

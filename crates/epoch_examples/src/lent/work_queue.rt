@@ -1,8 +1,6 @@
 //! A queue through which some threads hand jobs to others. Each job is moved: into the queue by the thread that sends
 //! it, and out by the one thread that receives it.
-ghost use Rattle.std.specs.Prelude.{◌≡◌, IsSome};
-
-use epoch_lend_pointers::{Fault, PostSet, Refused, Session, Writer};
+use epoch_lend_pointers::{Fault, PostSet, Refused, ScopedSession, Writer, pinned};
 use epoch_lists::{LendingQueue, OwnedNode};
 
 /// A job on its way.
@@ -16,17 +14,11 @@ const TRIES: u32 = 1_000;
 /// An error leaves the queue as it is, and hands the job back. The caller can call again.
 pub fn send<'s, J: PostSet>(
     queue: &LendingQueue<'_, 's, J, JobNode>,
-    session: &mut Session<'_, J>,
+    session: &mut ScopedSession<'_, J>,
     writer: &mut Writer<'_, 's, J, JobNode>,
     job: String,
-) -> Result<(), Refused<String>>
-    requires free { IsSome session.old.reader }
-    ensures free { IsSome session.new.reader }
-{
-    let guard = session.pin();
-    let sent = queue.push_owned(writer, &guard, job, TRIES);
-    session.unpin(guard);
-    sent
+) -> Result<(), Refused<String>> {
+    pinned(session, |guard| queue.push_owned(writer, guard, job, TRIES))
 }
 
 /// Takes the job that was sent first, under a pin of its own. `None`: no job is there.
@@ -34,14 +26,8 @@ pub fn send<'s, J: PostSet>(
 /// An error leaves the job in the queue, and the caller can call again.
 pub fn receive<'s, J: PostSet>(
     queue: &LendingQueue<'_, 's, J, JobNode>,
-    session: &mut Session<'_, J>,
+    session: &mut ScopedSession<'_, J>,
     writer: &mut Writer<'_, 's, J, JobNode>,
-) -> Result<Option<String>, Fault>
-    requires free { IsSome session.old.reader }
-    ensures free { IsSome session.new.reader }
-{
-    let guard = session.pin();
-    let received = queue.pop_owned(writer, &guard, TRIES);
-    session.unpin(guard);
-    received
+) -> Result<Option<String>, Fault> {
+    pinned(session, |guard| queue.pop_owned(writer, guard, TRIES))
 }

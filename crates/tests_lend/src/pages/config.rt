@@ -1,10 +1,10 @@
 //! Threads that read a configuration while another one replaces it.
 use crate::pages::stage::{Page, Tally, add, cells, play};
-use crate::sessions::{pin, session};
+use crate::sessions::scoped;
 use crate::stores::calls::{release, writer};
 use crate::wants::want;
 use epoch_examples::lent::config::{Config, config_at, replace_config};
-use epoch_lend_pointers::{Atomic, Domain, LendingGuard, Plain, PostSet, Store};
+use epoch_lend_pointers::{Atomic, Domain, LendingGuard, Plain, PostSet, Store, pinned, staying};
 use std::alloc::{AllocError, Global};
 use std::process::Abort;
 use std::sync::Wait;
@@ -57,25 +57,26 @@ fn read_once<J: PostSet>(
     }
 }
 
-/// Reads until the writer is done, under a guard that is renewed each time.
+/// Reads until the writer is done, under a pin that is renewed each time.
 fn read<J: PostSet>(
     rt: &impl Abort,
     store: &Store<'_, J, Plain<Config>>,
     present: &Present,
     tally: &Tally,
 ) {
-    let mut session = session(rt, store.domain());
-    let mut guard = pin(rt, &mut session);
-    for _ in 0..1_000_000u64 {
-        // What is read after this is there, at the latest.
-        let is_over = present.is_over.load(SeqCst);
-        read_once(store, present, &guard, tally);
-        if is_over {
-            break;
+    let mut session = scoped(rt, store.domain());
+    staying(&mut session, |session| {
+        for _ in 0..1_000_000u64 {
+            // What is read after this is there, at the latest.
+            let is_over = present.is_over.load(SeqCst);
+            pinned(session, |guard| {
+                read_once(store, present, guard, tally);
+            });
+            if is_over {
+                break;
+            }
         }
-        guard = guard.renew();
-    }
-    session.unpin(guard);
+    });
 }
 
 /// Replaces the configuration 500 times.
@@ -85,13 +86,13 @@ fn write<J: PostSet>(
     store: &Store<'_, J, Plain<Config>>,
     present: &Present,
 ) {
-    let mut session = session(rt, store.domain());
+    let mut session = scoped(rt, store.domain());
     let mut writer = writer(rt, alloc, store);
     for limit in 0..500u64 {
         let config = config_of(alloc, limit).expect(rt, "memory");
-        let guard = pin(rt, &mut session);
-        let replaced = replace_config(&present.config, &mut writer, &guard, config);
-        session.unpin(guard);
+        let replaced = pinned(&mut session, |guard| {
+            replace_config(&present.config, &mut writer, guard, config)
+        });
         want(rt, "a configuration is replaced", replaced, Ok(()));
     }
     present.is_over.store(true, SeqCst);

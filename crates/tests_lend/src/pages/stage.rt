@@ -1,8 +1,6 @@
 //! A domain for the pages whose values are lent, and calls of sessions and writers.
-ghost use Rattle.std.specs.Prelude.{◌≡◌, IsSome};
-
 use crate::pages::{config, owners, service, sorted_list, work_queue};
-use epoch_lend_pointers::{Domain, LentCells, Made, PostSet, Posts, Session};
+use epoch_lend_pointers::{Domain, LentCells, Made, PostSet, Posts};
 use std::alloc::Global;
 use std::marker::Brand;
 use std::process::Abort;
@@ -73,11 +71,4 @@ pub(crate) fn cells<J: PostSet, V: Drop>(
     domain: &Domain<J>,
 ) -> LentCells<J, V> {
     LentCells::new(alloc, 2_048, domain).expect(rt, "memory for cells")
-}
-
-/// No guard of the session is out.
-pub(crate) fn want_idle<J: PostSet>(rt: &impl Abort, session: &Session<'_, J>)
-    ensures { IsSome session.now.reader }
-{
-    assert!(rt; session.can_pin(), "no guard of the session is out");
 }

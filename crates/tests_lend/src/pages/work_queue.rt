@@ -1,10 +1,10 @@
 //! Threads that hand jobs to others.
-use crate::pages::stage::{Page, Tally, add, cells, play, want_idle};
-use crate::sessions::session;
+use crate::pages::stage::{Page, Tally, add, cells, play};
+use crate::sessions::scoped;
 use crate::stores::calls::{release, writer};
 use crate::wants::want;
 use epoch_examples::lent::work_queue::{JobNode, receive, send};
-use epoch_lend_pointers::{Domain, PostSet, Session, Store, Writer};
+use epoch_lend_pointers::{Domain, PostSet, ScopedSession, Store, Writer};
 use epoch_lists::{LendingQueue, OwnedNode};
 use std::alloc::Global;
 use std::process::Abort;
@@ -43,42 +43,28 @@ fn job_of(rt: &impl Abort, alloc: Global, letters: u64) -> String {
     job
 }
 
-/// Whether the job was sent.
-fn send_once<'s, J: PostSet>(
-    rt: &impl Abort,
-    queue: &LendingQueue<'_, 's, J, JobNode>,
-    session: &mut Session<'_, J>,
-    writer: &mut Writer<'_, 's, J, JobNode>,
-    job: String,
-) -> bool {
-    want_idle(rt, session);
-    send(queue, session, writer, job).is_ok()
-}
-
 fn send_each<'s, J: PostSet>(
     rt: &impl Abort,
     alloc: Global,
     store: &Store<'s, J, JobNode>,
     queue: &LendingQueue<'_, 's, J, JobNode>,
 ) {
-    let mut session = session(rt, store.domain());
+    let mut session = scoped(rt, store.domain());
     let mut writer = writer(rt, alloc, store);
     for letters in 1..=EACH {
         let job = job_of(rt, alloc, letters);
-        let is_sent = send_once(rt, queue, &mut session, &mut writer, job);
-        want(rt, "there is a cell for each job", is_sent, true);
+        let sent = send(queue, &mut session, &mut writer, job);
+        want(rt, "there is a cell for each job", sent.is_ok(), true);
     }
     release(rt, writer);
 }
 
 /// How many letters the job has that came, if one did.
 fn receive_once<'s, J: PostSet>(
-    rt: &impl Abort,
     queue: &LendingQueue<'_, 's, J, JobNode>,
-    session: &mut Session<'_, J>,
+    session: &mut ScopedSession<'_, J>,
     writer: &mut Writer<'_, 's, J, JobNode>,
 ) -> Option<u64> {
-    want_idle(rt, session);
     match receive(queue, session, writer) {
         Ok(Some(job)) => Some(job.len() as u64),
         _ => None,
@@ -93,13 +79,13 @@ fn receive_some<'s, J: PostSet, R: Abort + Wait>(
     queue: &LendingQueue<'_, 's, J, JobNode>,
     tally: &Tally,
 ) {
-    let mut session = session(rt, store.domain());
+    let mut session = scoped(rt, store.domain());
     let mut writer = writer(rt, alloc, store);
     for _ in rt.forever() {
         if tally.first.load(SeqCst) == SENDERS * EACH {
             break;
         }
-        match receive_once(rt, queue, &mut session, &mut writer) {
+        match receive_once(queue, &mut session, &mut writer) {
             Some(letters) => {
                 add(&tally.second, letters);
                 add(&tally.first, 1);
