@@ -3,7 +3,7 @@ ARGS ?= queue 3 4
 
 PICTURES = $(patsubst docs/pictures/%.txt,%,$(wildcard docs/pictures/*.txt))
 
-.PHONY: help run threads try draw pictures pages words runs test refute take beside beside-histories rivals
+.PHONY: help run threads try draw pictures pages words runs test refute take beside beside-histories rivals leaks
 
 help:
 	@echo 'make try      compiles what runs a script, and runs it; proves nothing              20 s, then 1 s'
@@ -28,6 +28,7 @@ help:
 	@echo '                                                            15 min, then 72 s for 10,000,000 LINES'
 	@echo 'make rivals   times this library and what a user would pick instead in turn; beside/README.md'
 	@echo '              says what must be installed                                       25 min, then 3 min'
+	@echo 'make leaks    runs programs under valgrind, and sees that they lose no memory    25 min, then 1 min'
 	@echo
 	@echo 'INPUT=FILE    the script of try, run and draw, instead of crates/epoch_run_script/stdin'
 	@echo "ARGS='WORDS'  the arguments of threads, instead of 'queue 3 4'"
@@ -106,3 +107,6 @@ beside-histories:
 
 rivals:
 	@tools/rivals.py
+
+leaks:
+	@tools/leaks.py

@@ -3,10 +3,11 @@
 //! `ROW SIDE THREADS TURNS ROUNDS` prints how many turns of the last round did what they should, how many there were,
 //! and the nanoseconds that a turn of each round took. With no word it makes a short round of most rows on one thread
 //! and prints these counts alone. `growth THREADS VALUES` has one thread place so many values, in a store that begins
-//! with 64 cells, while the others read them.
+//! with 64 cells, while the others read them. `maps COUNT` makes so many maps, one after another, and ends them.
 #![tactic(auto)]
 
 mod draw;
+mod ended;
 mod growth;
 mod kit;
 mod lent;
@@ -44,6 +45,9 @@ fn main(rt: HostRuntime) -> io::Result<()> {
         (Some(row), Some(_)) if row.as_str() == "growth" => {
             let (threads, turns) = (number(2, 1), number(3, FEW));
             growth::grow(&rt, alloc, RoundPlan { threads, turns })
+        }
+        (Some(row), Some(_)) if row.as_str() == "maps" => {
+            ended::end_maps(&rt, alloc, number(2, 1))
         }
         (Some(row), Some(side)) => {
             table::time(&rt, alloc, plan, row.as_str(), side.as_str(), number(5, 1))
