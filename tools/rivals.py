@@ -39,6 +39,8 @@ ROWS = [
     ("replace_retire_busy_1048576", 192_000, "library crossbeam_epoch"),
     ("map_get_1000", 768_000, "library crossbeam_epoch dashmap dashmap_fast_hash kit_rwlock"),
     ("map_get_100000", 384_000, "library library_grown crossbeam_epoch dashmap dashmap_fast_hash kit_rwlock"),
+    ("map_64_a_pin_100000", 384_000, "library crossbeam_epoch"),
+    ("map_zipfian_100000", 384_000, "library crossbeam_epoch dashmap dashmap_fast_hash kit_rwlock"),
     ("map_90_5_5_100000", 192_000, "library crossbeam_epoch dashmap dashmap_fast_hash kit_rwlock"),
     ("map_get_1000000", 192_000, "library crossbeam_epoch dashmap dashmap_fast_hash kit_rwlock"),
     ("ordered_get_10000", 48_000, "library crossbeam_epoch"),

@@ -31,66 +31,88 @@ impl Hasher for Multiply {
 }
 
 trait Map: Sync {
-    fn get(&self, key: u64) -> Option<u64>;
-    fn insert(&self, key: u64);
-    fn remove(&self, key: u64);
+    /// What calls are made under.
+    type Pin;
+
+    fn pin(&self) -> Self::Pin;
+    fn get(&self, key: u64, pin: &Self::Pin) -> Option<u64>;
+    fn insert(&self, key: u64, pin: &Self::Pin);
+    fn remove(&self, key: u64, pin: &Self::Pin);
 }
 
 impl<S: BuildHasher + Clone + Sync + Send> Map for DashMap<u64, u64, S> {
+    type Pin = ();
+
+    fn pin(&self) {}
+
     #[inline(always)]
-    fn get(&self, key: u64) -> Option<u64> {
+    fn get(&self, key: u64, _pin: &()) -> Option<u64> {
         DashMap::get(self, &key).map(|value| *value)
     }
 
     #[inline(always)]
-    fn insert(&self, key: u64) {
+    fn insert(&self, key: u64, _pin: &()) {
         self.entry(key).or_insert(key);
     }
 
     #[inline(always)]
-    fn remove(&self, key: u64) {
+    fn remove(&self, key: u64, _pin: &()) {
         DashMap::remove(self, &key);
     }
 }
 
 impl Map for michael::Map {
+    type Pin = epoch::Guard;
+
     #[inline(always)]
-    fn get(&self, key: u64) -> Option<u64> {
-        michael::Map::get(self, key, &epoch::pin())
+    fn pin(&self) -> epoch::Guard {
+        epoch::pin()
     }
 
     #[inline(always)]
-    fn insert(&self, key: u64) {
-        michael::Map::insert(self, key, key, &epoch::pin());
+    fn get(&self, key: u64, pin: &epoch::Guard) -> Option<u64> {
+        michael::Map::get(self, key, pin)
     }
 
     #[inline(always)]
-    fn remove(&self, key: u64) {
-        michael::Map::remove(self, key, &epoch::pin());
+    fn insert(&self, key: u64, pin: &epoch::Guard) {
+        michael::Map::insert(self, key, key, pin);
+    }
+
+    #[inline(always)]
+    fn remove(&self, key: u64, pin: &epoch::Guard) {
+        michael::Map::remove(self, key, pin);
     }
 }
 
 /// Works on a map that has `KEYS` of the keys below `SPACE` at first. If there are more keys than that, a tenth of the
-/// calls change the map. A look-up that finds another key's value isn't counted as done.
-fn work<const KEYS: u64, const SPACE: u64>(map: impl Map, size: Size) -> Option<Answer> {
+/// calls change the map. `TOGETHER` calls are made under a pin. A look-up that finds another key's value isn't counted
+/// as done.
+fn work<const KEYS: u64, const SPACE: u64, const SKEW: u64, const TOGETHER: u64>(
+    map: impl Map,
+    size: Size,
+) -> Option<Answer> {
     for index in 0..KEYS {
-        map.insert(index * SCATTER % SPACE);
+        map.insert(index * SCATTER % SPACE, &map.pin());
     }
     Some(rounds(size, |thread, round| {
         let mut draw = Draw::of(thread, round);
         let mut done = 0;
-        for _ in 0..size.turns {
-            let number = draw.number();
-            let key = key::<SPACE>(number);
-            match if SPACE == KEYS { 0 } else { percent(number) } {
-                0..=89 => done += u64::from(map.get(key).map_or(SPACE > KEYS, |value| value == key)),
-                90..=94 => {
-                    map.insert(key);
-                    done += 1;
-                }
-                _ => {
-                    map.remove(key);
-                    done += 1;
+        for _ in 0..size.turns / TOGETHER {
+            let pin = map.pin();
+            for _ in 0..TOGETHER {
+                let number = draw.number();
+                let key = key::<SPACE, SKEW>(number);
+                match if SPACE == KEYS { 0 } else { percent(number) } {
+                    0..=89 => done += u64::from(map.get(key, &pin).map_or(SPACE > KEYS, |value| value == key)),
+                    90..=94 => {
+                        map.insert(key, &pin);
+                        done += 1;
+                    }
+                    _ => {
+                        map.remove(key, &pin);
+                        done += 1;
+                    }
                 }
             }
         }
@@ -98,11 +120,18 @@ fn work<const KEYS: u64, const SPACE: u64>(map: impl Map, size: Size) -> Option<
     }))
 }
 
-pub fn time<const KEYS: u64, const SPACE: u64>(side: &str, size: Size) -> Option<Answer> {
+pub fn time<const KEYS: u64, const SPACE: u64, const SKEW: u64, const TOGETHER: u64>(
+    side: &str,
+    size: Size,
+) -> Option<Answer> {
     match side {
-        "crossbeam_epoch" => work::<KEYS, SPACE>(michael::Map::new(michael::bits_for(KEYS)), size),
-        "dashmap" => work::<KEYS, SPACE>(DashMap::<u64, u64, RandomState>::default(), size),
-        "dashmap_fast_hash" => work::<KEYS, SPACE>(DashMap::<u64, u64, BuildHasherDefault<Multiply>>::default(), size),
+        "crossbeam_epoch" => {
+            work::<KEYS, SPACE, SKEW, TOGETHER>(michael::Map::new(michael::bits_for(KEYS)), size)
+        }
+        "dashmap" => work::<KEYS, SPACE, SKEW, TOGETHER>(DashMap::<u64, u64, RandomState>::default(), size),
+        "dashmap_fast_hash" => {
+            work::<KEYS, SPACE, SKEW, TOGETHER>(DashMap::<u64, u64, BuildHasherDefault<Multiply>>::default(), size)
+        }
         _ => None,
     }
 }
@@ -129,7 +158,7 @@ fn ordered<const KEYS: u64, const SPACE: u64>(
         let mut draw = Draw::of(thread, round);
         let mut done = 0;
         for _ in 0..size.turns {
-            done += u64::from(turn(&map, key::<SPACE>(draw.number())));
+            done += u64::from(turn(&map, key::<SPACE, 0>(draw.number())));
         }
         done
     }))

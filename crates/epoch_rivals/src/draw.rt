@@ -24,10 +24,12 @@ impl Draw {
     }
 }
 
-/// The key that a number chooses, below `SPACE`.
+/// The key that a number chooses, below `SPACE`: each as often as any other; or, with `SKEW` 15, about by Zipf's law,
+/// half as often as one that is half as large.
 #[inline(always)]
-pub fn key<const SPACE: u64>(number: u64) -> u64 {
-    (number >> 32).wrapping_mul(SPACE) >> 32
+pub fn key<const SPACE: u64, const SKEW: u64>(number: u64) -> u64 {
+    let below = (SPACE >> (number & SKEW)).max(1);
+    (number >> 32).wrapping_mul(below) >> 32
 }
 
 /// Which of a hundred calls a number chooses.

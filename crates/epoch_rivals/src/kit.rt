@@ -84,11 +84,11 @@ impl Side for Numbers {
 
 /// A map in a lock, which has `KEYS` of the keys below `SPACE` at first.
 #[derive(Drop)]
-struct LockedMap<const KEYS: u64, const SPACE: u64> {
+struct LockedMap<const KEYS: u64, const SPACE: u64, const SKEW: u64> {
     map: RwLock<HashMap<u64, u64>>,
 }
 
-impl<const KEYS: u64, const SPACE: u64> LockedMap<KEYS, SPACE> {
+impl<const KEYS: u64, const SPACE: u64, const SKEW: u64> LockedMap<KEYS, SPACE, SKEW> {
     /// Whether the map has this key with its value, or may lack it.
     #[inline(always)]
     fn get<R: Wait>(&self, rt: &R, key: u64) -> bool {
@@ -121,7 +121,7 @@ impl<const KEYS: u64, const SPACE: u64> LockedMap<KEYS, SPACE> {
 
     #[inline(always)]
     fn turn<R: Wait>(&self, rt: &R, number: u64) -> bool {
-        let key = key::<SPACE>(number);
+        let key = key::<SPACE, SKEW>(number);
         let call = if SPACE > KEYS { percent(number) } else { 0 };
         if call < 90 {
             return self.get(rt, key);
@@ -134,7 +134,7 @@ impl<const KEYS: u64, const SPACE: u64> LockedMap<KEYS, SPACE> {
     }
 }
 
-impl<const KEYS: u64, const SPACE: u64> Side for LockedMap<KEYS, SPACE> {
+impl<const KEYS: u64, const SPACE: u64, const SKEW: u64> Side for LockedMap<KEYS, SPACE, SKEW> {
     type Own = ();
 
     fn join(&self) -> Option<()> {
@@ -178,13 +178,13 @@ pub fn queue_rounds<R: Clock + Threads + Wait + Sync>(
     Ok(all_rounds(rt, plan, &side, times))
 }
 
-pub fn map_rounds<const KEYS: u64, const SPACE: u64, R: Clock + Threads + Wait + Sync>(
-    rt: &R,
-    alloc: Global,
-    plan: RoundPlan,
-    times: &mut [Nanos],
-) -> io::Result<u64> {
-    let side = LockedMap::<KEYS, SPACE> {
+pub fn map_rounds<
+    const KEYS: u64,
+    const SPACE: u64,
+    const SKEW: u64,
+    R: Clock + Threads + Wait + Sync,
+>(rt: &R, alloc: Global, plan: RoundPlan, times: &mut [Nanos]) -> io::Result<u64> {
+    let side = LockedMap::<KEYS, SPACE, SKEW> {
         map: RwLock::new(HashMap::new(alloc)),
     };
     if !side.fill(rt) {

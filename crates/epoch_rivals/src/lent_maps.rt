@@ -43,12 +43,15 @@ impl KeyNode for LentEntry<u64, u64> {
 }
 
 /// What is done with a map: look-ups among 1,000 keys; among 100,000, in cells that were made at first or added one
-/// block after another; the same beside changes; or look-ups among a million.
+/// block after another, by a renewed guard for each call or for 64, or by Zipf's law; the same beside changes; or
+/// look-ups among a million.
 #[derive(Clone, Copy)]
 pub enum MapRow {
     FewLooks,
     Looks,
     GrownLooks,
+    LooksTogether,
+    ZipfianLooks,
     Changes,
     ManyLooks,
 }
@@ -58,16 +61,25 @@ impl MapRow {
     fn keys(self) -> u64 {
         match self {
             MapRow::FewLooks => 1_000,
-            MapRow::Looks | MapRow::GrownLooks | MapRow::Changes => 100_000,
             MapRow::ManyLooks => 1_000_000,
+            _ => 100_000,
         }
     }
 }
 
 /// A map that has `KEYS` of the keys below `SPACE` at first. If there are more keys than that, a tenth of the calls
-/// change the map.
+/// change the map. The guard is renewed for each `TOGETHER` calls.
 #[derive(Drop)]
-struct NumberMap<'q, 's, J: PostSet, N, const KEYS: u64, const SPACE: u64> {
+struct NumberMap<
+    'q,
+    's,
+    J: PostSet,
+    N,
+    const KEYS: u64,
+    const SPACE: u64,
+    const SKEW: u64,
+    const TOGETHER: u64,
+> {
     alloc: Global,
     store: &'q Store<'s, J, N>,
     map: GrowingMap<'q, 's, J, N>,
@@ -76,13 +88,13 @@ struct NumberMap<'q, 's, J: PostSet, N, const KEYS: u64, const SPACE: u64> {
 /// Makes a call, and returns whether it did what it should. A look-up should find its key's value, or may miss it if
 /// keys are removed.
 #[inline(always)]
-fn call<'s, J: PostSet, N: KeyNode, const KEYS: u64, const SPACE: u64>(
+fn call<'s, J: PostSet, N: KeyNode, const KEYS: u64, const SPACE: u64, const SKEW: u64>(
     map: &GrowingMap<'_, 's, J, N>,
     writer: &mut Writer<'_, 's, J, N>,
     guard: &LendingGuard<'_, J>,
     number: u64,
 ) -> bool {
-    let key = key::<SPACE>(number);
+    let key = key::<SPACE, SKEW>(number);
     let chosen = if SPACE > KEYS { percent(number) } else { 0 };
     if chosen < 90 {
         return match map.get(guard, &key) {
@@ -96,9 +108,17 @@ fn call<'s, J: PostSet, N: KeyNode, const KEYS: u64, const SPACE: u64>(
     map.remove(writer, guard, &key).is_ok()
 }
 
-/// Makes the calls of one thread, under one guard that is renewed before each.
+/// Makes the calls of one thread, under one guard that is renewed before each, or before some.
 #[inline(never)]
-fn calls<'s, J: PostSet, N: KeyNode, const KEYS: u64, const SPACE: u64>(
+fn calls<
+    's,
+    J: PostSet,
+    N: KeyNode,
+    const KEYS: u64,
+    const SPACE: u64,
+    const SKEW: u64,
+    const TOGETHER: u64,
+>(
     map: &GrowingMap<'_, 's, J, N>,
     session: &mut Session<'s, J>,
     writer: &mut Writer<'_, 's, J, N>,
@@ -110,18 +130,28 @@ fn calls<'s, J: PostSet, N: KeyNode, const KEYS: u64, const SPACE: u64>(
     let mut draw = Draw::of(part.thread, part.round);
     let mut done: u64 = 0;
     let mut guard = session.pin();
-    for _ in 0..part.turns {
+    for _ in 0..part.turns / TOGETHER.max(1) {
         guard = guard.renew();
-        if call::<J, N, KEYS, SPACE>(map, writer, &guard, draw.number()) {
-            done = done.wrapping_add(1);
+        for _ in 0..TOGETHER {
+            if call::<J, N, KEYS, SPACE, SKEW>(map, writer, &guard, draw.number()) {
+                done = done.wrapping_add(1);
+            }
         }
     }
     session.unpin(guard);
     done
 }
 
-impl<'q, 's, J: PostSet, N: KeyNode, const KEYS: u64, const SPACE: u64> Side
-    for NumberMap<'q, 's, J, N, KEYS, SPACE> {
+impl<
+    'q,
+    's,
+    J: PostSet,
+    N: KeyNode,
+    const KEYS: u64,
+    const SPACE: u64,
+    const SKEW: u64,
+    const TOGETHER: u64,
+> Side for NumberMap<'q, 's, J, N, KEYS, SPACE, SKEW, TOGETHER> {
     type Own = LentOwn<'q, 's, J, N>;
 
     fn join(&self) -> Option<LentOwn<'q, 's, J, N>> {
@@ -134,7 +164,12 @@ impl<'q, 's, J: PostSet, N: KeyNode, const KEYS: u64, const SPACE: u64> Side
         own: &mut LentOwn<'q, 's, J, N>,
         part: RoundPart,
     ) -> u64 {
-        calls::<J, N, KEYS, SPACE>(&self.map, &mut own.session, &mut own.writer, part)
+        calls::<J, N, KEYS, SPACE, SKEW, TOGETHER>(
+            &self.map,
+            &mut own.session,
+            &mut own.writer,
+            part,
+        )
     }
 
     fn leave<R: Wait>(&self, rt: &R, own: LentOwn<'q, 's, J, N>) {
@@ -153,6 +188,8 @@ impl<'q, 's, J: PostSet, N: KeyNode> LentOwn<'q, 's, J, N> {
 fn rounds_in<
     const KEYS: u64,
     const SPACE: u64,
+    const SKEW: u64,
+    const TOGETHER: u64,
     R: Clock + Threads + Wait + Sync,
     J: PostSet + Send + Sync,
     N: KeyNode + Send + Sync,
@@ -167,7 +204,7 @@ fn rounds_in<
         }
         filling.leave(rt);
     }
-    let shared = NumberMap::<J, N, KEYS, SPACE> { alloc, store, map };
+    let shared = NumberMap::<J, N, KEYS, SPACE, SKEW, TOGETHER> { alloc, store, map };
     all_rounds(rt, plan, &shared, times)
 }
 
@@ -199,12 +236,22 @@ fn rounds_over<
     let mut cells = cells_in::<J, N>(alloc, first, count, &domain)?;
     let store = store_of(alloc, &domain, &mut cells)?;
     let done = match row {
-        MapRow::FewLooks => rounds_in::<1_000, 1_000, R, J, N>(rt, alloc, plan, &store, times),
-        MapRow::Looks | MapRow::GrownLooks => rounds_in::<100_000, 100_000, R, J, N>(
+        MapRow::FewLooks => rounds_in::<1_000, 1_000, 0, 1, R, J, N>(
             rt, alloc, plan, &store, times,
         ),
-        MapRow::Changes => rounds_in::<100_000, 200_000, R, J, N>(rt, alloc, plan, &store, times),
-        MapRow::ManyLooks => rounds_in::<1_000_000, 1_000_000, R, J, N>(
+        MapRow::Looks | MapRow::GrownLooks => rounds_in::<100_000, 100_000, 0, 1, R, J, N>(
+            rt, alloc, plan, &store, times,
+        ),
+        MapRow::LooksTogether => rounds_in::<100_000, 100_000, 0, 64, R, J, N>(
+            rt, alloc, plan, &store, times,
+        ),
+        MapRow::ZipfianLooks => rounds_in::<100_000, 100_000, 15, 1, R, J, N>(
+            rt, alloc, plan, &store, times,
+        ),
+        MapRow::Changes => rounds_in::<100_000, 200_000, 0, 1, R, J, N>(
+            rt, alloc, plan, &store, times,
+        ),
+        MapRow::ManyLooks => rounds_in::<1_000_000, 1_000_000, 0, 1, R, J, N>(
             rt, alloc, plan, &store, times,
         ),
     };

@@ -105,10 +105,10 @@ impl<'q, 's, J: PostSet, N: NumberNode> NumbersInOrder<'q, 's, J, N> {
     #[inline(always)]
     fn call(&self, guard: &LendingGuard<'_, J>, number: u64) -> bool {
         match self.row {
-            OrderedRow::Looks => self.has(guard, key::<10_000>(number)),
-            OrderedRow::ManyLooks => self.has(guard, key::<100_000>(number)),
+            OrderedRow::Looks => self.has(guard, key::<10_000, 0>(number)),
+            OrderedRow::ManyLooks => self.has(guard, key::<100_000, 0>(number)),
             // From each of these keys on, there are as many entries as a walk goes over.
-            OrderedRow::Ranges => self.has_from(guard, key::<99_901>(number)),
+            OrderedRow::Ranges => self.has_from(guard, key::<99_901, 0>(number)),
         }
     }
 

@@ -3,8 +3,8 @@ use crate::lent_lines::PairRow;
 use crate::lent_ordered::OrderedRow;
 use crate::lent_values::ValueRow;
 use crate::rows::SideWork::{
-    KitFew, KitMany, KitMap, KitMix, KitQueue, KitRead, LentFew, LentGrown, LentMany, LentMap,
-    LentMix, LentOrdered, LentPair, LentValue,
+    KitFew, KitMany, KitMap, KitMix, KitQueue, KitRead, KitZipfian, LentFew, LentGrown, LentMany,
+    LentMap, LentMix, LentOrdered, LentPair, LentTogether, LentValue, LentZipfian,
 };
 
 /// What a turn of a side does.
@@ -20,6 +20,10 @@ pub enum SideWork {
     LentMap,
     /// The same in cells that were added one block after another.
     LentGrown,
+    /// Looks up one of 100,000 keys there, 64 under a pin.
+    LentTogether,
+    /// Looks up one of 100,000 keys there by Zipf's law.
+    LentZipfian,
     /// Looks up one of 200,000 keys there, or changes the map.
     LentMix,
     /// Looks up one of 1,000,000 keys there.
@@ -34,6 +38,8 @@ pub enum SideWork {
     KitFew,
     /// Looks up one of 100,000 keys there.
     KitMap,
+    /// Looks up one of 100,000 keys there by Zipf's law.
+    KitZipfian,
     /// Looks up one of 200,000 keys there, or changes the map.
     KitMix,
     /// Looks up one of 1,000,000 keys there.
@@ -47,7 +53,7 @@ const REPLACE_IN_MORE: ValueRow = ValueRow::Replace { cells: 262_144 };
 const REPLACE_IN_MANY: ValueRow = ValueRow::Replace { cells: 1_048_576 };
 
 /// A row's name, a side's name, and its work. `tools/rivals.py` lists the sides that each row is measured on.
-pub const SIDES: [(&str, &str, SideWork); 23] = [
+pub const SIDES: [(&str, &str, SideWork); 26] = [
     ("read_pin_each", "library", LentValue(ValueRow::Renewed)),
     ("read_pin_each", "library_pin", LentValue(ValueRow::Pinned)),
     ("read_pin_each", "kit_rwlock", KitRead),
@@ -76,6 +82,9 @@ pub const SIDES: [(&str, &str, SideWork); 23] = [
     ("map_get_100000", "library", LentMap),
     ("map_get_100000", "library_grown", LentGrown),
     ("map_get_100000", "kit_rwlock", KitMap),
+    ("map_64_a_pin_100000", "library", LentTogether),
+    ("map_zipfian_100000", "library", LentZipfian),
+    ("map_zipfian_100000", "kit_rwlock", KitZipfian),
     ("map_90_5_5_100000", "library", LentMix),
     ("map_90_5_5_100000", "kit_rwlock", KitMix),
     ("map_get_1000000", "library", LentMany),

@@ -24,15 +24,20 @@ fn rounds<R: Clock + Threads + Wait + Sync>(
         SideWork::LentFew => lent_maps::rounds(rt, alloc, plan, MapRow::FewLooks, times),
         SideWork::LentMap => lent_maps::rounds(rt, alloc, plan, MapRow::Looks, times),
         SideWork::LentGrown => lent_maps::rounds(rt, alloc, plan, MapRow::GrownLooks, times),
+        SideWork::LentTogether => {
+            lent_maps::rounds(rt, alloc, plan, MapRow::LooksTogether, times)
+        }
+        SideWork::LentZipfian => { lent_maps::rounds(rt, alloc, plan, MapRow::ZipfianLooks, times) }
         SideWork::LentMix => lent_maps::rounds(rt, alloc, plan, MapRow::Changes, times),
         SideWork::LentMany => lent_maps::rounds(rt, alloc, plan, MapRow::ManyLooks, times),
         SideWork::LentOrdered(row) => lent_ordered::rounds(rt, alloc, plan, row, times),
         SideWork::KitRead => Ok(kit::read_rounds(rt, plan, times)),
         SideWork::KitQueue => kit::queue_rounds(rt, alloc, plan, times),
-        SideWork::KitFew => kit::map_rounds::<1_000, 1_000, R>(rt, alloc, plan, times),
-        SideWork::KitMap => kit::map_rounds::<100_000, 100_000, R>(rt, alloc, plan, times),
-        SideWork::KitMix => kit::map_rounds::<100_000, 200_000, R>(rt, alloc, plan, times),
-        SideWork::KitMany => kit::map_rounds::<1_000_000, 1_000_000, R>(rt, alloc, plan, times),
+        SideWork::KitFew => kit::map_rounds::<1_000, 1_000, 0, R>(rt, alloc, plan, times),
+        SideWork::KitMap => kit::map_rounds::<100_000, 100_000, 0, R>(rt, alloc, plan, times),
+        SideWork::KitZipfian => kit::map_rounds::<100_000, 100_000, 15, R>(rt, alloc, plan, times),
+        SideWork::KitMix => kit::map_rounds::<100_000, 200_000, 0, R>(rt, alloc, plan, times),
+        SideWork::KitMany => kit::map_rounds::<1_000_000, 1_000_000, 0, R>(rt, alloc, plan, times),
     }
 }
 
