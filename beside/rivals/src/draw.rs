@@ -24,7 +24,7 @@ impl Draw {
 /// half as often as one that is half as large.
 #[inline(always)]
 pub fn key<const SPACE: u64, const SKEW: u64>(number: u64) -> u64 {
-    ((number >> 32) * (SPACE >> (number & SKEW)).max(1)) >> 32
+    ((number >> 32) * (SPACE >> ((number & SKEW) % 16)).max(1)) >> 32
 }
 
 /// Which of a hundred calls a number chooses.

@@ -28,7 +28,7 @@ impl Draw {
 /// half as often as one that is half as large.
 #[inline(always)]
 pub fn key<const SPACE: u64, const SKEW: u64>(number: u64) -> u64 {
-    let below = (SPACE >> (number & SKEW)).max(1);
+    let below = (SPACE >> ((number & SKEW) % 16)).max(1);
     (number >> 32).wrapping_mul(below) >> 32
 }
 
