@@ -1,4 +1,6 @@
 //! A domain for the pages whose values are lent, and calls of sessions and writers.
+ghost use Rattle.std.specs.Prelude.{◌≡◌};
+
 use crate::pages::{config, owners, service, sorted_list, work_queue};
 use epoch_lend_pointers::{Domain, LentCells, Made, PostSet, Posts};
 use std::alloc::Global;
