@@ -1,5 +1,5 @@
 //! A map, whose entries are read all the time, inserted, replaced and removed; or a cache, which has so many at most.
-ghost use Rattle.std.specs.Prelude.{◌≡◌, ◌⊎◌, None, Ok, IfErr, IfOk, IfSome};
+ghost use Rattle.std.specs.Prelude.{◌≡◌, ◌⊎◌, None, Ok, IsTrue, IfErr, IfOk, IfSome};
 ghost use Rattle.std.specs.Fn.{FnOnceReturnsAt, FnReturnsAt};
 ghost use Rattle.std.specs.declared.cmp.Ordering.TheVariants.{Equal};
 ghost use Rattle.epoch_map.specs.Placing.{KeepsOrRetires};
@@ -38,7 +38,10 @@ pub trait MapReads<K: MapKey, V> {
             × (Q.compared there key.now ≡ Equal) × FnOnceReturnsAt F.FnOnce look value made) };
 
     /// Returns whether the key has a value.
-    fn contains<Q: Seeks<K>>(&mut self, key: &Q) -> bool;
+    fn contains<Q: Seeks<K>>(&mut self, key: &Q) -> bool
+        // A key is there only if an entry was found whose key compares as equal.
+        ensures found { IsTrue result → (there : K) × (value : V) × is_entry there value
+            × (Q.compared there key.now ≡ Equal) };
 
     /// Calls `each` with the key and the value of each entry, in no order of the keys.
     ///

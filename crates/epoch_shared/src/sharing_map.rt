@@ -43,7 +43,7 @@ where
     share_entries::<R, K, V, C>(rt, alloc, threads, None, crew)
 }
 
-/// Does what [`share_map`] does with a map that is a cache of this capacity: a call that would go past it takes another
+/// Does what [`share_map`] does with a map that is a cache of this capacity: a call that would go past it takes an
 /// entry out, as [`SharedMap`] says.
 pub fn share_cache<R: Threads + Sync, K, V, C>(
     rt: &R,

@@ -43,8 +43,8 @@ pub(crate) fn cells_for(values: u32, threads: u16) -> u32
 pub struct SharedSizes {
     /// How many threads are started.
     pub threads: u16,
-    /// How many entries the map has at most, if it is a cache. `None`: as many as are inserted.
+    /// How many entries the map has at most, if it is a cache. `None`: as many as are inserted, up to some 16 million.
     pub capacity: Option<u32>,
-    /// How many messages can wait in the channel at a time, at least.
+    /// How many messages can wait in the channel at a time, at least, up to some 16 million.
     pub messages: u32,
 }

@@ -1,7 +1,8 @@
 //! One value, which is read all the time and replaced now and then.
-ghost use Rattle.std.specs.Prelude.{◌≡◌, ◌⊎◌, IsSome, IfErr, IfSome};
-ghost use Rattle.std.specs.Fn.{FnOnceReturnsAt};
+ghost use Rattle.std.specs.Prelude.{◌≡◌, ◌⊎◌, true, Ok, IsSome, IfErr, IfSome};
+ghost use Rattle.std.specs.Fn.{CalledAt, FnOnceReturnsAt};
 ghost use Rattle.epoch_cells.specs.declared.fault.Fault.TheVariants.{CellsFull, NoMemory, TableFull, TriesOut};
+ghost use Rattle.epoch_shared.specs.Updates.{GoesOnOnce, Makes, MakesLast};
 
 use crate::leaving::leave;
 use epoch_cells::{Fault, Refused};
@@ -28,8 +29,9 @@ pub trait SharedValue<T> {
 
     /// Puts the value in the place of the present one, which is dropped once no thread reads it any more.
     ///
-    /// `CellsFull`: each cell was in use, since a thread has stayed within a call. `NoMemory`: an allocation was
-    /// refused. The value comes back, and the present one stays.
+    /// `CellsFull`: each cell was in use, since a thread has stayed within a call, or memory for more was refused.
+    /// `NoMemory`: another allocation was refused, or no place to wait was seen. The value comes back, and the present
+    /// one stays.
     fn replace(&mut self, value: T) -> Result<(), Refused<T>>
         // A value that doesn't replace the present one is handed back, with `CellsFull` or `NoMemory`.
         ensures handed_back { IfErr result (λ refused. refused.value ≡ value) }
@@ -38,11 +40,13 @@ pub trait SharedValue<T> {
     /// Replaces the present value by what `change` makes of it, and calls `change` again if another thread was first.
     /// `false`: there is no value yet, or `change` returned `None`, and nothing is replaced.
     ///
-    /// `TriesOut`: other threads were first a thousand times, or each cell was in use. `NoMemory`: an allocation was
-    /// refused. The present value stays.
+    /// `TriesOut`: a thousand times, another thread was first or no free cell was found. `NoMemory`: an allocation was
+    /// refused, or no place to wait was seen. The present value stays.
     fn update<F: FnMut(&T) -> Option<T> + Drop>(&mut self, change: F) -> Result<bool, Fault>
         requires { F.IsAlwaysCallable change }
-        // An update is refused only with `NoMemory` or `TriesOut`.
+        // An update that replaces the value has called its function at some values, one after another, and the last
+        // call returned a value. An update is refused only with `NoMemory` or `TriesOut`.
+        ensures made { result ≡ Ok true → MakesLast (CalledAt F.FnMut) change }
         ensures refused { IfErr result (λ fault. (fault ≡ NoMemory) ⊎ (fault ≡ TriesOut)) };
 }
 
@@ -264,8 +268,9 @@ fn update_at<J: PostSet, N: Wraps, F: FnMut(&N::Value) -> Option<N::Value>>(
     requires free { IsSome session.old.reader }
     requires callable { F.IsAlwaysCallable change.old }
     ensures free { IsSome session.new.reader }
-    ensures store { writer.new.store ≡ writer.old.store }
     ensures callable { F.IsAlwaysCallable change.new }
+    ensures calls { GoesOnOnce (CalledAt F.FnMut) change.old change.new }
+    ensures made { result ≡ Ok true → Makes (CalledAt F.FnMut) change.old }
     ensures refused { IfErr result
         (λ fault. (fault ≡ CellsFull) ⊎ (fault ≡ NoMemory) ⊎ (fault ≡ TriesOut)) }
 {
@@ -285,6 +290,8 @@ fn change_once<J: PostSet, N: Wraps, F: FnMut(&N::Value) -> Option<N::Value>>(
     requires { F.IsAlwaysCallable change.old }
     ensures store { writer.new.store ≡ writer.old.store }
     ensures callable { F.IsAlwaysCallable change.new }
+    ensures calls { GoesOnOnce (CalledAt F.FnMut) change.old change.new }
+    ensures made { result ≡ Ok true → Makes (CalledAt F.FnMut) change.old }
     ensures refused { IfErr result
         (λ fault. (fault ≡ CellsFull) ⊎ (fault ≡ NoMemory) ⊎ (fault ≡ TriesOut)) }
 {
@@ -294,7 +301,7 @@ fn change_once<J: PostSet, N: Wraps, F: FnMut(&N::Value) -> Option<N::Value>>(
     let Some(node) = store.get(before, guard) else {
         return Ok(false);
     };
-    let Some(value) = change(node.value()) else {
+    let Some(value) = ask(change, node.value()) else {
         return Ok(false);
     };
     let new = match writer.place(guard, N::wrap(value)) {
@@ -312,4 +319,13 @@ fn change_once<J: PostSet, N: Wraps, F: FnMut(&N::Value) -> Option<N::Value>>(
             Err(Fault::TriesOut)
         }
     }
+}
+
+// Calls the closure with this value.
+fn ask<T, F: FnMut(&T) -> Option<T>>(change: &mut F, value: &T) -> Option<T>
+    requires { F.IsAlwaysCallable change.old }
+    ensures callable { F.IsAlwaysCallable change.new }
+    ensures called { CalledAt F.FnMut change.old value.now result change.new }
+{
+    change(value)
 }

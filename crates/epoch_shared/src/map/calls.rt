@@ -1,5 +1,5 @@
 //! The calls of a map, under a guard.
-ghost use Rattle.std.specs.Prelude.{◌≡◌, ◌⊎◌, None, Some, IsSome, IfErr, IfOk, IfSome};
+ghost use Rattle.std.specs.Prelude.{◌≡◌, ◌⊎◌, None, Some, IsSome, IsTrue, IfErr, IfOk, IfSome};
 ghost use Rattle.std.specs.Fn.{FnOnceReturnsAt, FnReturnsAt};
 ghost use Rattle.std.specs.declared.cmp.Ordering.TheVariants.{Equal};
 ghost use Rattle.epoch_map.specs.Placing.{KeepsOrRetires};
@@ -32,7 +32,22 @@ where
     }
 }
 
-// Does so with a closure that may be called again.
+// Returns whether the key has a value.
+pub(crate) fn is_there<'s, J: PostSet, N: KeepsEntry, Q: Seeks<N::Key>>(
+    map: &GrowingMap<'_, 's, J, N>,
+    guard: &LendingGuard<'_, J>,
+    key: &Q,
+) -> bool
+    ensures found { IsTrue result → (there : N.Key) × (value : N.Value) × IsOfNode N.key N.entry there value
+        × (Q.compared there key.now ≡ Equal) }
+{
+    match map.get(guard, key) {
+        Some(_node) => true,
+        None => false,
+    }
+}
+
+// Looks at the value of this key, with a closure that may be called again.
 pub(crate) fn see_in<'s, J: PostSet, N: KeepsEntry, R: Drop, F: Fn(&N::Value) -> R>(
     map: &GrowingMap<'_, 's, J, N>,
     guard: &LendingGuard<'_, J>,

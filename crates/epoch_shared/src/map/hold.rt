@@ -4,7 +4,7 @@ ghost use Rattle.epoch_cells.specs.declared.fault.Fault.TheVariants.{NoMemory, T
 ghost use Rattle.epoch_shared.specs.Keys.{IsOfNode};
 
 use crate::map::MapReads;
-use crate::map::calls::{go_over, look_up};
+use crate::map::calls::{go_over, is_there, look_up};
 use crate::map::node::KeepsEntry;
 use epoch_cells::Fault;
 use epoch_lend::readers::posts::PostSet;
@@ -81,7 +81,11 @@ impl<J: PostSet, N: KeepsEntry> MapReads<N::Key, N::Value> for LookHold<'_, '_, 
     }
 
     fn contains<Q: Seeks<N::Key>>(&mut self, key: &Q) -> bool {
-        self.get(key, |_value| true).is_some()
+        let map = self.map;
+        let guard = self.session.pin();
+        let is_there = is_there(map, &guard, key);
+        self.session.unpin(guard);
+        is_there
     }
 
     fn for_each<F: FnMut(&N::Key, &N::Value) + Drop>(&mut self, each: F) {
