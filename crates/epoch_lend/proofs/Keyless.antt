@@ -52,6 +52,7 @@ entries_keyless : (ls : List Loan) → Keyless (entries ls)
 entries_keyless [] = tt
 entries_keyless (l ∷ ls) = (entered_keyless (l.atom, l.epoch) l.log, entries_keyless ls)
 
+-- nor does all that a watch owns: its loans' entries, and what looks told
 pub watch_keyless : (ls : List Loan) (ss : List SeenPost) → Keyless (watch_owns ls ss)
 watch_keyless ls ss = (entries_keyless ls, all_shown_keyless ss ls)
 

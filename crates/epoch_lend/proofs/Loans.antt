@@ -34,6 +34,7 @@ use Rattle.epoch_lend.specs.Loans.{is_shown}
 abbrev pocket_coded : Coded (ℕ × ℕ)
 pocket_coded = coded× coded_ℕ coded_ℕ
 
+-- what says which loan a pocket has never says that it has none
 pub some_loan : (a n : ℕ) → nth_loan a n ≢ no_loan
 some_loan a n e = suc-ne-zero n (ap (λ (l : ℕ × ℕ). l.0) (pocket_coded.inj (suc n, a) (0, 0) e))
 

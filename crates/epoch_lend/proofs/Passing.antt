@@ -10,6 +10,7 @@ use Rattle.epoch_lend.specs.Grace.PinStep.{Looks}
 pub passes_lower : (lower epoch word : ℕ) → lower ≤ epoch → Passes epoch word → Passes lower word
 passes_lower lower epoch word less passes pinned = let past = passes pinned in omega (arith, less, past)
 
+-- looks that passed each post for an epoch passed each for an epoch before it
 pub all_passed_lower : (did : PinStep → Type 0) (clock lower epoch posts : ℕ) → lower ≤ epoch
     → AllPassed did clock epoch posts → AllPassed did clock lower posts
 all_passed_lower did clock lower epoch posts less passed position within =

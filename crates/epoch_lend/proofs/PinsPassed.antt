@@ -44,6 +44,7 @@ look_within (step ∷ before) clock post word is (inl now) =
 look_within (step ∷ before) clock post word is (inr earlier) =
     let within = look_within before clock post word is.1 earlier in omega (arith, within, clock_grows step before)
 
+-- in every run no pin is of an epoch past the clock
 pub pins_stay_near : PinsStayNear
 pins_stay_near [] post is = omega arith
 pins_stay_near (LoadsClock epoch ∷ before) post is = pins_stay_near before post is.1
@@ -93,6 +94,7 @@ ticked_now word pin pins count epoch next clock near at kept =
     (λ now. subst Kept (sym (eq-eqb epoch next now)) (λ early. omega (arith, near, at, now)))
     (λ other. subst Kept (sym (ne_eqb epoch next other)) kept)
 
+-- in every run a pin that began before the clock came to an epoch is of an epoch before that
 pub earlier_pins : EarlierPinsAreOfEarlierEpochs
 earlier_pins [] post epoch is pinned early = absurd (pinned refl)
 earlier_pins (LoadsClock other ∷ before) post epoch is pinned early = earlier_pins before post epoch is.1 pinned early
@@ -146,6 +148,7 @@ passes_now before post epoch clock word is looks passes pinned =
     passes_later (post_word post before) (pin_at post before) (pins_before epoch before) epoch
     (earlier_pins before post epoch is pinned) past
 
+-- in every run, once a look has passed a post, after the clock came to an epoch, the pin there began since
 pub passed_pins : PassedPinsAreLater
 passed_pins [] post epoch clock word is past found passes pinned = absurd found
 passed_pins (step ∷ before) post epoch clock word is past (inl now) passes pinned =
@@ -169,6 +172,7 @@ passed_pins (Ticks next ∷ before) post epoch clock word is past (inr earlier) 
 passed_pins (Looks other position found ∷ before) post epoch clock word is past (inr earlier) passes pinned =
     passed_pins before post epoch clock word is.1 past earlier passes pinned
 
+-- in every run, once looks have passed all posts, after the clock came to an epoch, each pin left began since
 pub pins_over : PinsFromBeforeAreOver
 pins_over run epoch posts is passed post within pinned =
     let look = passed.2 post within in

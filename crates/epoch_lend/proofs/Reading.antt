@@ -59,6 +59,7 @@ use Rattle.epoch_lend.proofs.PartSteps.{tokens_in}
 abbrev pub Sees : Lft → (R : RattleType) → Ptr → Option R.Denot → R.Denot → Fml
 Sees κ R p v x = fex (v ≡ Some x) (λ _. lent_at R p x κ)
 
+-- a look that gained the right to see a value found one, and it is lent for the same lifetime
 pub sees_one : {M : Type 1} {𝓤 : Ura M} (𝓛 : Logic 𝓤) (κ : Lft) (R : RattleType) (p : Ptr) (v : Option R.Denot)
     → ent 𝓤 (sem 𝓛 (sees κ R p v)) (sem 𝓛 (fex R.Denot (Sees κ R p v)))
 sees_one {M} {𝓤} 𝓛 κ R p None = never_e 𝓤 _

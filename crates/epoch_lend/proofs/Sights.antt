@@ -19,6 +19,7 @@ use Rattle.epoch_lend.specs.Loans.{was_seen, each_seen, EachSeen, is_sealed, is_
 pub sealed_test : (seal n : ℕ) → n ≤ 2 * seal → is_sealed seal n ≡ true
 sealed_test seal n = le-leb n (2 * seal)
 
+-- a word that passes the test is up to the seal
 pub sealed_fact : (seal n : ℕ) → is_sealed seal n ≡ true → n ≤ 2 * seal
 sealed_fact seal n = leb-true n (2 * seal)
 
@@ -28,6 +29,7 @@ past_test seal n past = dite (ℕ_discrete n 0)
     (λ nil. or_left (eqb n 0) (leb (2 * seal) n) (eq-eqb n 0 nil))
     (λ other. or_right (eqb n 0) (leb (2 * seal) n) (le-leb (2 * seal) n (past other)))
 
+-- a word that passes the test, and isn't 0, is past the seal
 pub past_fact : (seal n : ℕ) → is_past seal n ≡ true → n ≢ 0 → 2 * seal ≤ n
 past_fact seal n past other = either_fact (or_cases (eqb n 0) (leb (2 * seal) n) past)
   where

@@ -67,6 +67,7 @@ holds_keyless R s y d (shown t) = (
 )
 holds_keyless R s y d (removed t) = so_far_keyless R d (suc t)
 
+-- nor does what a place has at any word
 pub turns_keyless : (R : RattleType) → IsSend R → IsSync R → (d : TurnNames) (n : ℕ) → Keyless (at_turn_word R d n)
 turns_keyless R s y d n = λ z. ((λ _. tt), (tt, holds_keyless R s y d z))
 

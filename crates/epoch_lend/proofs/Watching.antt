@@ -22,6 +22,7 @@ one_more : (l : Loan) (more all : List Loan) → is_watched l all ≡ true → i
 one_more l [] all watched = watched
 one_more l (m ∷ ms) all watched = or_right (eqb l.atom m.atom) (is_watched l (ms ++ all)) (one_more l ms all watched)
 
+-- loans that are watched stay so where the watch has more loans
 pub watched_more : (ls more all : List Loan) → AreWatched ls all → AreWatched ls (more ++ all)
 watched_more [] more all watched = refl
 watched_more (l ∷ ls) more all watched =

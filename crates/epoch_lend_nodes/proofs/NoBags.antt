@@ -10,6 +10,7 @@ pub room_told : (refused : Option Fault) → without_bags (room_fault refused) �
 room_told (Some NoMemory) = refl
 room_told refused = refl
 
+-- where no node was placed, the fault is told as it is
 pub place_told : (refused : Option Fault) → without_bags (place_fault refused) ≡ place_fault refused
 place_told (Some NoMemory) = refl
 place_told refused = refl

@@ -9,6 +9,7 @@ abbrev pub answer_of : Bool → AccessAnswer
 answer_of true = Exchanged (record { name = None; tag = 0 })
 answer_of false = Absent
 
+-- such an answer tells whether the exchange was made
 pub tells : (made : Bool) → was_made (answer_of made) ≡ made
 tells true = refl
 tells false = refl

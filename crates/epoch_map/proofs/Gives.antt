@@ -42,6 +42,7 @@ some_so None P Q follows p = tt
 pub some_at : {A : Type 0} (o : Option A) (a : A) (P : A → Type 0) → o ≡ Some a → IfSome o P → P a
 some_at o a P is p = subst (λ z. IfSome z P) is p
 
+-- what is none isn't there
 pub none_at : {A : Type 0} (o : Option A) → o ≡ None → IsSome o → ⊥
 none_at (Some a) is some = cc
 none_at None is some = cc

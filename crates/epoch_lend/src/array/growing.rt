@@ -1,4 +1,5 @@
-//! Cells whose number grows: a first block of them, and further ones, each of which has as many cells as all before it.
+//! Cells whose number grows: a first block of them, and further ones. Each has as many cells as all before it, up to a
+//! limit.
 ghost use Rattle.std.specs.Prelude.{◌≡◌, ◌≤◌, min, Some, length, map, MatchOption, IfSome, IfOk};
 ghost use Rattle.std.specs.List.{slice_get};
 ghost use Rattle.epoch_lend.specs.Growing.{top_bit, block_number, index_in_block, IsOfCell, IsInFurther};

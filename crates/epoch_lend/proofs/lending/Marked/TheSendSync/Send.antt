@@ -7,6 +7,7 @@ use Rattle.std_alloc.proofs.SendSync.{quiet}
 use Rattle.epoch_lend.specs.contracts.lending.Marked.{the_row, the_type}
 use Rattle.epoch_lend.proofs.Keyless.{marked_keyless}
 
+-- what a marking gained may be sent to another thread, where its value may be sent and shared
 pub send : (T : RattleType) → IsSend T → IsSync T → IsSend (the_row T)
 send T s y = let O = the_type T in
     let ps : IsSend RawPtr = search sendable in owning_send O (

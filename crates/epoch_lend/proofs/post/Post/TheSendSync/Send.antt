@@ -2,6 +2,7 @@ use denote.Param.Send.{IsSend}
 use Rattle.epoch_lend.specs.contracts.post.Post.{the_row}
 use Rattle.epoch_lend.proofs.Keyless.{post_keyless}
 
+-- a post may be sent to another thread: what it owns names no thread's token
 pub send : IsSend the_row
 send = record {
   owned = λ d vs. (

@@ -2,6 +2,7 @@ use denote.Param.Send.{IsSend}
 use Rattle.epoch_lend.specs.contracts.post.PostGuard.{the_row}
 use Rattle.epoch_lend.proofs.Keyless.{entered_keyless}
 
+-- a post's guard may go to another thread: its parts of the lifetime and its pin's entry name no thread's token
 pub send : IsSend the_row
 send = record {
   owned = λ d vs. (

@@ -4,6 +4,7 @@ use Rattle.core.proofs.atomic.Sent.{chain-Keyless}
 use Rattle.epoch_lend.specs.contracts.post.PostGuard.{the_row}
 use Rattle.epoch_lend.proofs.Keyless.{entered_keyless}
 
+-- what a shared guard says of its lifetime and of its pin names no thread's token
 pub sync : IsSync the_row
 sync = record {
   shared = λ d b o κ. (

@@ -3,6 +3,7 @@ use denote.Param.Send.{IsSend, Frees}
 use Rattle.core.specs.declared.alloc.Allocator.{Ghosts}
 use Rattle.epoch_lend.specs.contracts.cells.block.Block.{the_row}
 
+-- a block's room and the right to free its memory name no thread's token
 pub send : (T A : RattleType) (g : Ghosts A.Denot) → IsSend T → IsSend A → Frees g g.dealloc_token → IsSend (the_row T
     A g)
 send T A g s sa f = record {

@@ -7,6 +7,7 @@ use Rattle.std_alloc.proofs.SendSync.{quiet}
 use Rattle.epoch_lend.specs.contracts.cells.turns.TurnClaim.{the_row, the_type}
 use Rattle.epoch_lend.proofs.TurnsKeyless.{claim_keyless}
 
+-- what a claim gained may be sent to another thread, where the values of its place may be
 pub send : (T : RattleType) → IsSend T → IsSend (the_row T)
 send T s = let O = the_type T in
     let ps : IsSend RawPtr = search sendable in owning_send O (ps, tt) (λ d. claim_keyless T d.at d.state d.word

@@ -3,6 +3,7 @@ use denote.Param.Send.{IsSend}
 use Rattle.epoch_lend.specs.contracts.cells.turns.TurnName.{the_row}
 use Rattle.epoch_lend.proofs.TurnsKeyless.{turn_keyless}
 
+-- the name of a turn may go to another thread, of whatever type its value is
 pub send : (T : RattleType) → IsSend (the_row T)
 send T = record {
   owned = λ d vs. (

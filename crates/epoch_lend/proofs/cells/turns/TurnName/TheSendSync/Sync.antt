@@ -7,6 +7,7 @@ use denote.Param.Send.{IsSync, cell_keyless}
 use Rattle.epoch_lend.specs.contracts.cells.turns.TurnName.{the_row}
 use Rattle.epoch_lend.proofs.TurnsKeyless.{turn_keyless}
 
+-- what a shared name of a turn says of its value names no thread's token, whatever the value is
 pub sync : (T : RattleType) → IsSync (the_row T)
 sync T = record {
   shared = λ d b o κ. (
