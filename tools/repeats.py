@@ -18,7 +18,7 @@ import sys
 LIST = 5
 CLAUSES = 1005
 LISTS = 31
-LEMMAS = 362
+LEMMAS = 0
 STATEMENTS = 24
 
 CONTRACT = re.compile(r"^( *)(?:pub(?:\([a-z]+\))? )?(?:const |unsafe )*fn (\w+)")

@@ -4,6 +4,7 @@ use Rattle.std.proofs.Common.{arith}
 use Rattle.epoch_cells.specs.declared.cells.name.Name.{Name}
 use Rattle.epoch_atomic.specs.Pointers.{tagged_word, SameName}
 
+-- two pointers of the same word have the same name and tag, where their tags are below 256
 pub of_one_pointer : (one other : Option Name) (s t : ℕ) → s < 256 → t < 256
     → tagged_word one s ≡ tagged_word other t
     → SameName one other × (s ≡ t)

@@ -103,6 +103,7 @@ front_first {J} x old new front hand at is expired =
 pub least_none : (m n : ℕ) → n ≡ 0 → min m n ≡ 0
 least_none m n none = ap (min m) none ∙ min-zero m
 
+-- where two numbers are both one less, the least of them is one less
 pub least_more : (m n : ℕ) → 0 < m → min m (n + 1) ≡ min (m - 1) n + 1
 least_more m n some = elim (split m n) [
   | inl le ↦ let one : min m (n + 1) ≡ m = min-eq_left (omega arith) in
@@ -116,6 +117,7 @@ least_more m n some = elim (split m n) [
     split : (a b : ℕ) → (a ≤ b) ⊎ (b < a)
     split a b = grind arith
 
+-- to bound a number by another one twice is the same as once
 pub least_twice : (m n : ℕ) → min m (min m n) ≡ min m n
 least_twice m n = min-eq_right (min-le_left m n)
 

@@ -55,9 +55,11 @@ taken_why (word ∷ words) (home ∷ homes) (suc place) beside matches taken =
 pub look_reserves : (cursor : PutCursor) (at place : ℕ) → cursor ≡ PutLook at → ¬ (ReservesAt cursor place)
 look_reserves cursor at place is r = subst (λ u. ReservesAt u place) is r
 
+-- a put whose next step is to claim a place has claimed none yet
 pub claim_reserves : (cursor : PutCursor) (at place : ℕ) → cursor ≡ PutClaim at → ¬ (ReservesAt cursor place)
 claim_reserves cursor at place is r = subst (λ u. ReservesAt u place) is r
 
+-- a put whose next step fills a place has claimed no other one
 pub fill_reserves : (cursor : PutCursor) (at place : ℕ) → cursor ≡ PutFill at → place ≢ at → ¬ (ReservesAt cursor place)
 fill_reserves cursor at place is differs r = differs (subst (λ u. ReservesAt u place) is r)
 
@@ -65,10 +67,12 @@ fill_reserves cursor at place is differs r = differs (subst (λ u. ReservesAt u 
 pub look_claims_none : (cursor : TakeCursor) (at place : ℕ) → cursor ≡ TakeLook at → ¬ (ClaimsAt cursor place)
 look_claims_none cursor at place is r = subst (λ u. ClaimsAt u place) is r
 
+-- a collection whose next step is to claim a place has claimed none yet
 pub claim_claims_none : (cursor : TakeCursor) (at word place : ℕ)
     → cursor ≡ TakeClaim at word → ¬ (ClaimsAt cursor place)
 claim_claims_none cursor at word place is r = subst (λ u. ClaimsAt u place) is r
 
+-- a collection whose next step empties a place has claimed no other one
 pub empty_claims : (cursor : TakeCursor) (at place : ℕ) → cursor ≡ TakeEmpty at → place ≢ at → ¬ (ClaimsAt cursor place)
 empty_claims cursor at place is differs r = differs (subst (λ u. ClaimsAt u place) is r)
 

@@ -45,6 +45,7 @@ module _ {J : Type 0} (old new : PlaceList J) (bag : Sealed J) (at : ℕ) where
 pub expired_word : (x word : ℕ) → word % 2 ≡ 1 → word / 2 + 2 ≤ x → IsExpiredWord x word
 expired_word x word odd small = (word / 2, omega (arith, odd), small)
 
+-- and a word that is expired is found so by the test
 pub test_word : (x word : ℕ) → IsExpiredWord x word → (word % 2 ≡ 1) × (word / 2 + 2 ≤ x)
 test_word x word (seal, is, small) = (omega (arith, is), omega (arith, is, small))
 

@@ -14,6 +14,7 @@ get_any [] i d e within = absurd (omega arith)
 get_any (x ∷ xs) zero d e within = refl
 get_any (x ∷ xs) (suc i) d e within = get_any xs i d e (omega arith)
 
+-- two numbers are equal or not
 pub same_or_not : (k i : ℕ) → (k ≡ i) ⊎ (k ≢ i)
 same_or_not k i = grind arith
 

@@ -35,6 +35,7 @@ claim_keyless β R ok s y (block_ptr b o) v = λ t. (
 )
 claim_keyless β R ok s y null_ptr v = tt
 
+-- nor does a claim whose right is known to be that to write
 pub writer_keyless : (β : Lft) (R : RattleType) (ok : R.Denot → Type 0) → IsSend R → IsSync R
     → (p : Ptr) (right : ℕ) (v : Option R.Denot) → right ≡ 2 → Keyless (claim_owns β R ok p right v)
 writer_keyless β R ok s y p right v is = subst (λ (n : ℕ). Keyless (claim_owns β R ok p n v)) (sym is)

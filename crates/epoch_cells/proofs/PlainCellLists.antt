@@ -8,11 +8,13 @@ use Rattle.std.proofs.lemmas.Bool.Decides.{eqb_tells}
 use Rattle.std.proofs.lemmas.Option.{slice_get_within, slice_get_read}
 use Rattle.epoch_cells.specs.PlainCells.{Numbered, empty, filled, has, if_has, cell_of, KeepsOthers, Stands}
 
+-- what is written at a place within a list stands there
 pub get_set_same : {X : Type 0} (xs : List X) (i : ℕ) (x : X) → i < length xs → slice_get (slice_set xs i x) i ≡ Some x
 get_set_same [] i x within = absurd (omega (arith, within))
 get_set_same (y ∷ xs) zero x within = refl
 get_set_same (y ∷ xs) (suc i) x within = get_set_same xs i x (omega (arith, within))
 
+-- a write at one place leaves what stands at every other
 pub get_set_other : {X : Type 0} (xs : List X) (i j : ℕ) (x : X)
     → j ≢ i → slice_get (slice_set xs i x) j ≡ slice_get xs j
 get_set_other [] i j x other = refl
@@ -41,6 +43,7 @@ has_other cell turn other same differs = grind (arith, common_steps)
 abbrev pub HasAtMost : {V : Type 0} → ℕ → Numbered V → Type 0
 HasAtMost turn cell = (cell.value ≡ None) ⊎ (cell.turn ≡ turn)
 
+-- a slot that has at most the value of one turn gives no cell for another turn
 pub if_has_other : {V : Type 0} (cell : Numbered V) (turn other : ℕ)
     → HasAtMost turn cell → other ≢ turn → if_has other (Some cell) ≡ None
 if_has_other cell turn other (inl none) differs = rw (has_none cell other none) refl
@@ -74,12 +77,14 @@ pub record Found {V : Type 0} (cells : List (Numbered V)) (slot turn : ℕ) (cel
   pub there : has cell turn ≡ true
   pub is_cell : cell_of cells slot turn ≡ Some cell
 
+-- a slot that has the value of a turn is at this turn
 pub has_turn : {V : Type 0} (cell : Numbered V) (turn : ℕ) → has cell turn ≡ true → cell.turn ≡ turn
 has_turn cell turn there = elim (eqb_tells cell.turn turn) [
   | inl same ↦ same.1
   | inr differs ↦ absurd (false≢true (sym (ap (λ same. same && is_some cell.value) differs.0) ∙ there))
 ]
 
+-- a name finds the cell that stands at its slot and has the value of its turn
 pub found_at : {V : Type 0} (cells : List (Numbered V)) (slot turn : ℕ) (cell : Numbered V)
     → slice_get cells (slot - 1) ≡ Some cell
     → has cell turn ≡ true
@@ -91,6 +96,7 @@ found_at cells slot turn cell at there = record {
   is_cell = ap (if_has turn) at ∙ ap (λ found. if found then Some cell else None) there;
 }
 
+-- a cell that a name finds has a value
 pub found_value : {V : Type 0} {cells : List (Numbered V)} {slot turn : ℕ} {cell : Numbered V}
     → Found cells slot turn cell → cell.value ≢ None
 found_value {turn = turn} {cell = cell} it none = false≢true (sym (has_none cell turn none) ∙ it.there)
@@ -165,19 +171,23 @@ pub entered : {V : Type 0} (value : Option V) (turn : ℕ) (before after : Numbe
 entered (Some v) turn before after at counted stays = inr (ap (λ cell. cell.turn) counted ∙ at)
 entered None turn before after at counted stays = inr (ap (λ cell. cell.turn) (stays refl) ∙ at)
 
+-- a slot that has no value afterwards, or stays at its turn, has at most the value of that turn
 pub at_most : {V : Type 0} (turn : ℕ) (before after : Numbered V)
     → before.turn ≡ turn → (after.value ≡ None) ⊎ (after.turn ≡ before.turn) → HasAtMost turn after
 at_most turn before after at (inl none) = inl none
 at_most turn before after at (inr same) = inr (same ∙ at)
 
+-- where one fact about a value brings another, it does so for the value in an option, if there is one
 pub on_some : {X : Type 0} {A B : X → Type 0} (o : Option X) → ((x : X) → A x → B x) → IfSome o A → IfSome o B
 on_some (Some x) f a = f x a
 on_some None f none = none
 
+-- the same of the value in a result that succeeded
 pub on_ok : {X E : Type 0} {A B : X → Type 0} (r : Result X E) → ((x : X) → A x → B x) → IfOk r A → IfOk r B
 on_ok (Ok x) f a = f x a
 on_ok (Err e) f none = none
 
+-- the same of a fact that holds where a result failed
 pub on_err : {X E A B : Type 0} (r : Result X E) → (A → B) → OnErr r A → OnErr r B
 on_err (Ok x) f none = none
 on_err (Err e) f a = f a

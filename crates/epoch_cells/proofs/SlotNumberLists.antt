@@ -27,9 +27,11 @@ are_numbered : (numbers : List ℕ) → CountsFrom 1 numbers → AreNumbered num
 are_numbered numbers counts place other within =
     let there = number_at 1 numbers place other counts within in omega (arith, there)
 
+-- slots that count from 1 are numbered as those of a store
 pub all_numbered : (numbers : List ℕ) → CountsFrom 1 numbers → ∥ AreNumbered numbers ∥₁
 all_numbered numbers counts = ∣ are_numbered numbers counts ∣₁
 
+-- where slots are numbered so, the number of each is one more than its place
 pub number_of : (numbers : List ℕ) (place other : ℕ)
     → ∥ AreNumbered numbers ∥₁ → place < length numbers → get_or numbers place other ≡ place + 1
 number_of numbers place other numbered within =

@@ -29,6 +29,7 @@ answer_typed E null_ptr v i f = absurd i
 abbrev pub kept_of : Ptr → Val
 kept_of p = vstruct (vcons (hand_of p) vnil)
 
+-- the machine value of a claim that is kept is of its type
 pub kept_typed : (p : Ptr) → InBlock p → T (has_ty (ty_struct [] (tcons hand_ty tnil)) (kept_of p)) × WT (kept_of p)
 kept_typed (block_ptr b o) i = (tt, ((tt, (tt, tt)), tt))
 kept_typed null_ptr i = absurd i

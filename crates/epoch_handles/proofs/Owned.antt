@@ -42,6 +42,7 @@ paused_at h paused position at of same = record {
   collector = of;
 }
 
+-- and a paused guard that is its own has its position
 pub position_paused : {T W : Type 0} (h : Local T W) (paused : Paused T W) (position : ℕ)
     → paused.guard.position ≡ Some position → IsPausedBy h paused → IsTrue (nat_eq position h.position)
 position_paused h paused position at is =

@@ -37,6 +37,7 @@ without_bags before last [] bags did = did.0
 without_bags before last (x ∷ log) bags (next, did, (got, more, gets, all, later)) =
     (next, did, without_bags next last log more later)
 
+-- what is asked between two situations is performed, whichever bags are got
 pub plainly : {J : Type 0} (before last : Situation J) (goes : To last before) → Performed 1 before goes.0 last
 plainly before last goes = without_bags before last goes.0 goes.1 goes.2
 
@@ -50,6 +51,7 @@ cursors put take = record { put = put; take = take }
 pub ends_empty : TakeEnds ≡ Got → ⊥
 ends_empty same = cc same
 
+-- a step after which the collection goes on has got no bag either
 pub goes_on : TakeAgain ≡ Got → ⊥
 goes_on same = cc same
 

@@ -6,5 +6,6 @@ use Rattle.std.proofs.lemmas.Bool.{false≢true}
 pub not_both : {b : Bool} → b ≡ false → b ≡ true → ⊥
 not_both off on = false≢true (sym off ∙ on)
 
+-- no option is both `None` and `Some`
 pub none_is_not_some : {A : Type 0} {o : Option A} {x : A} → o ≡ None → o ≡ Some x → ⊥
 none_is_not_some none some = cc (sym none ∙ some)

@@ -105,6 +105,8 @@ abbrev pub one_place : {J : Type 0} → ℕ → Option (Sealed J) → PlaceView 
 one_place word content a b =
     record { words = word ∷ replicate 15 0; homes = some content ∷ []; views = a ∷ b ∷ [] }
 
+-- The place is as the rule says, if its word tells what is at home there, neither seat has claimed it, and each bag
+-- that a seat left is at home or was won.
 pub two_share : {J : Type 0} (word : ℕ) (content : Option (Sealed J)) (a b : PlaceView J) → IsPlaceWord word
     → IsAtHome word content → word ≢ 2 → a.claimed ≡ None → b.claimed ≡ None
     → IsBalanced (a ∷ b ∷ []) (some content ∷ []) → PlacesAgree 1 (one_place word content a b)

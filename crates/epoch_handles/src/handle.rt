@@ -493,8 +493,8 @@ impl<'c, T: Drop, W: Run> LocalHandle<'c, T, W> {
     }
 
     /// Pins the participant, and returns a guard. Of the pins that are made with no guard out, the first one collects,
-    /// and so does each 128th after it. The guard gets free cells that the participant keeps, for the values that are
-    /// placed under it.
+    /// and so does each 128th after it. Such a guard gets free cells that the participant keeps, for the values that
+    /// are placed under it.
     ///
     /// If the participant is pinned already, this only counts one more guard, and makes no atomic step. At most
     /// `2^32 - 1` guards can be out: [`LocalHandle::can_pin`] must hold. Keep pins short: while a participant stays

@@ -65,6 +65,7 @@ changed a old step p _ (AccessGoes b k found did go now touches) is =
 changed a old step p _ (MachineEnds c go drive) is = absurd (subst (IsAccess a) (idle_ended (seat_of old p) c) is)
 changed a old step p _ _ is = absurd is
 
+-- a call on cells and pointers that is under way after a step was so before it, or begins by it and isn't refused
 pub access_begun : (old new : State) (step : Step) (reply : Reply) (a : Access) → Moves old step reply new
     → (q : ℕ) → IsAccess a (seat_of new q).progress → WasAccess old step q a
 access_begun old new step reply a did =

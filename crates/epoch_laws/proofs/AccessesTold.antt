@@ -108,6 +108,7 @@ module _ (t : Told) (g : Option ℕ) (spot : Spot) where
   told_change_at change k found h (Some ptr) did e = told_change change k found ptr h did e
   told_change_at change k found h None did e = along t (Point g spot change) did _ e (λ names. absent change)
 
+-- each step of a call on cells and pointers is told only what such a call may be told
 pub told_by_touch : (t : Told) (a : Access) (k : ℕ) (found : Ptr) (h : Heap) (did : Touched) → Touches a k found h did
     → IsTold t a did.told
 told_by_touch t (Place v) k found h did e = told_placed t v k found h (slice_get h.cells k) did e

@@ -125,6 +125,7 @@ calls_along s old new log (x ∷ entries) fresh before h (mid, took, run) =
     subst CallsFollow (append_assoc log (x ∷ []) entries)
     (calls_along s mid new (log ++ x ∷ []) entries fresh upto (calls_push log x mid h held) run)
 
+-- in every run of a new world each job is called at most once, and after its deferral
 pub calls_follow : (s new : State) (log : List Entry) → IsFresh s → Runs s log new → CallsFollow log
 calls_follow s new log fresh run = calls_along s s new [] log fresh refl none run
   where

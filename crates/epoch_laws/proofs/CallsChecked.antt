@@ -27,6 +27,7 @@ where_none_called log j default P none t how at = absurd (none t how (read_stand
 before_or_after : (i j : ℕ) → (i ≡ j) ⊎ ((i < j) ⊎ (j < i))
 before_or_after i j = grind arith
 
+-- no ticket is called twice if, wherever one is called, it wasn't called before
 pub none_twice : (log : List Entry)
     → ((j : ℕ) → j < length log → (t : ℕ) (how : Called) → IsReplyAt log j (CalledReply t how)
     → ¬ (IsCalledBefore log t j))
@@ -37,6 +38,7 @@ none_twice log first t i j how again one two = elim (before_or_after i j) [
   | inr (inr after) ↦ absurd (first i (stands_within log i _ one) t how one (j, again, after, two))
 ]
 
+-- where a ticket is called that was called before, the rule is broken that none is called twice
 pub called_twice : (log : List Entry) (t j : ℕ) (how : Called) → IsReplyAt log j (CalledReply t how)
     → IsCalledBefore log t j → ¬ (CallsNoneTwice log)
 called_twice log t j how at before none = omega (arith, none t before.0 j before.1 how before.3 at, before.2)

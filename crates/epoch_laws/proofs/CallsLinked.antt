@@ -43,9 +43,11 @@ length_without g (first ∷ guards) h = at_first (first == g) refl (length_witho
     at_first true same rest = omega arith
     at_first false other rest = omega (arith, rest (rest_is_out (first == g) (is_out g guards) h other))
 
+-- where the number of guards is tested to be 0, it is 0
 pub none_out : (n : ℕ) → (n == 0) ≡ true → n ≡ 0
 none_out n h = grind (arith, nat_tests)
 
+-- where a pin isn't refused for its guards, there are fewer than 64
 pub has_room : (n : ℕ) (f : Fault) (b : Bool) → nat_le 64 n ≡ b → (if b then Some f else None) ≡ None → n < 64
 has_room n f true full h = absurd (cc)
 has_room n f false room h = grind (arith, nat_tests)
@@ -74,6 +76,7 @@ module _ (sizes : Sizes) (seat : WorldSeat) (h : IsLinked sizes seat) where
   accesses a true idle = progress_linked sizes seat h _ (follows_at sizes seat h Idle idle)
   accesses a false idle = progress_linked sizes seat h _ (follows_at sizes seat h Idle idle, (_, refl))
 
+  -- a call that isn't refused, and begins at an idle seat, leaves its participant linked
   pub begun_linked : (c : Call) (tickets : ℕ) (heap : Heap) → seat.progress ≡ Idle
       → call_refusal c seat tickets heap ≡ None
       → IsLinked sizes (begun_seat c seat)
@@ -116,6 +119,7 @@ module _ (sizes : Sizes) (seat : WorldSeat) (h : IsLinked sizes seat) where
       → guards_after m.action m.guards ≡ length seat.guards
   as_many a e same = ap (λ (b : Action). guards_after b m.guards) e ∙ same ∙ h.counted
 
+  -- a driven call that ends leaves its participant linked
   pub ended_linked : (c : Call) → IsDriven c m seat.guards → IsLinked sizes (ended_seat c seat)
   ended_linked Pin d = counts_linked _ _ (one_more (lowest seat.guards) d.action)
   ended_linked (Unpin None) d = absurd d.under

@@ -244,6 +244,7 @@ runs_stand old new (entry ∷ log) past given linked h c (mid, took, run) =
     (step_linked old mid entry.step entry.reply linked took) (jobs_push old mid past entry h go)
     (cells_push old mid past given entry c h go took) run
 
+-- In every run of a new world, each name that was given has its cell or is destroyed, and not both.
 pub cells_stand : (s new : State) (log : List Entry) → IsFresh s → (run : Runs s log new)
     → StandsOrDestroyed (given_of s log new run) (past_of s log new run) new.heap
 cells_stand s new log fresh run =

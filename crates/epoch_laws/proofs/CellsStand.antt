@@ -46,6 +46,7 @@ pub record ChangesCells (old new : Heap) (empties : Name → Type 0) : Type 0 wh
 abbrev pub none_emptied : Name → Type 0
 none_emptied x = ⊥
 
+-- where the heap stays the same, no cell is emptied and no name is given
 pub cells_same : (old new : Heap) → new ≡ old → ChangesCells old new none_emptied
 cells_same old new e = record {
   back = λ x given stands. subst (λ h. IsInHeap h x) e stands;
@@ -253,6 +254,7 @@ removes_cell h n (Some cell) e = at_test (cell.readers == 0)
         (λ x emptied. let same : n ≡ x = cc (emptied.0) in sym same)
     at_test false = empties_none h h _ (cells_same h h refl) (λ x emptied. cc (emptied.1))
 
+-- the call of a job empties the cell whose value its removal destroys, and no other
 pub job_changes : (h : Heap) (removes : Option Name) → ChangesCells h (heap_after_job h removes) (RemovesCell h removes)
 job_changes h None = empties_none h h _ (cells_same h h refl) (λ x emptied. cc (emptied.0))
 job_changes h (Some n) = removes_cell h n (cell_at h n) refl
@@ -372,6 +374,7 @@ has_own n content = itself n.turn
     itself : (t : ℕ) → ((t == t) && true) ≡ true
     itself t = grind (arith, nat_tests)
 
+-- the name that a Place answers has its cell then
 pub place_stands : (v k : ℕ) (found : Ptr) (h : Heap) (cell : Option Cell)
     → slice_get h.cells k ≡ cell → (did : Touched)
     → Places v k found h cell did → (n : Name) → progress_after (Place v) k did.told ≡ Ends (Done (NameAnswer n))

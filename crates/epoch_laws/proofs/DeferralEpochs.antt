@@ -11,12 +11,14 @@ DeferredBy when tickets bound [] = Unit {0}
 DeferredBy when tickets bound (job ∷ jobs) =
     (job.ticket < tickets) × (when job.ticket ≤ bound) × DeferredBy when tickets bound jobs
 
+-- what was deferred at or before an epoch was so at or before a later one, also when more tickets are given
 pub deferred_more : (when when' : ℕ → ℕ) (n n' bound bound' : ℕ) (jobs : List Deferral) → n ≤ n' → bound ≤ bound'
     → ((t : ℕ) → t < n → when' t ≡ when t) → DeferredBy when n bound jobs → DeferredBy when' n' bound' jobs
 deferred_more when when' n n' b b' [] more later same h = tt
 deferred_more when when' n n' b b' (job ∷ jobs) more later same h =
     (omega arith, omega (arith, same job.ticket h.0), deferred_more when when' n n' b b' jobs more later same h.2)
 
+-- one more job may be added that has a ticket and was deferred at or before the epoch
 pub deferred_push : (when : ℕ → ℕ) (n bound : ℕ) (jobs : List Deferral) (job : Deferral)
     → DeferredBy when n bound jobs → job.ticket < n → when job.ticket ≤ bound
     → DeferredBy when n bound (jobs ++ job ∷ [])
@@ -30,6 +32,7 @@ SealedBehind when tickets epoch [] = Unit {0}
 SealedBehind when tickets epoch (bag ∷ bags) =
     (bag.seal ≤ epoch) × DeferredBy when tickets bag.seal bag.jobs × SealedBehind when tickets epoch bags
 
+-- each bag stays sealed at or after its jobs' deferrals as the epoch advances and more tickets are given
 pub sealed_more : (when when' : ℕ → ℕ) (n n' e e' : ℕ) (bags : List Bag) → n ≤ n' → e ≤ e'
     → ((t : ℕ) → t < n → when' t ≡ when t) → SealedBehind when n e bags → SealedBehind when' n' e' bags
 sealed_more when when' n n' e e' [] more later same h = tt

@@ -25,6 +25,7 @@ use Rattle.epoch_laws.proofs.TicketsOnce.{end_calls_all}
 abbrev pub end_of : State → Ending
 end_of s = s.ending
 
+-- a step of a call that its machine drives leaves the collector's end as it was
 pub machine_apart : (old new : State) (p : ℕ) (seat : WorldSeat) (c : Call) (s : Stage) (ask : Option Ask)
     (reply : Reply) → DrivesCall old p seat c s ask reply new → new.ending ≡ old.ending
 machine_apart old new p seat c s (Some (PutBag seal)) reply did = ap end_of did.4
@@ -153,6 +154,7 @@ counts_along old new log (x ∷ entries) h (mid, took, run) =
     counts_push old mid log x h (kind_ends old aside x.step x.reply (step_kind old aside x.step x.reply took.0)) in
     subst (CountsEnd new) (append_assoc log (x ∷ []) entries) (counts_along mid new (log ++ x ∷ []) entries next run)
 
+-- in every run from a new world, an end that is told a number has called so many jobs, and none is left
 pub ends_at_count : (s new : State) (log : List Entry) → IsFresh s → Runs s log new → EndsAtCount log
 ends_at_count s new log fresh run n tells =
     let told = (counts_along s new [] log none run).told n tells in

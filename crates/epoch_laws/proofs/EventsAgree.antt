@@ -47,6 +47,7 @@ pub record IsAway (t : Told) : Type 0 where
   pub paused : t.paused ≡ None
   pub pinned : t.pinned ≡ false
 
+-- what a log tells of a participant agrees with its seat
 pub record Agrees (t : Told) (seat : WorldSeat) : Type 0 where
   pub guards : t.guards ≡ seat.guards
   pub paused : t.paused ≡ seat.paused

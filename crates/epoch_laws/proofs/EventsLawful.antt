@@ -153,6 +153,7 @@ fresh_agrees s fresh q = subst (λ (at : WorldSeat). Agrees nothing at) (sym (fr
       away = λ free. record { registered = refl; call = refl; guards = refl; paused = refl; pinned = refl };
     }
 
+-- in every run from a new world, each reply is one that its step may have by what was told before it
 pub replies_stand : (s new : State) (log : List Entry) → IsFresh s → Runs s log new → MayReplyAll (λ p. nothing) log
 replies_stand s new log fresh run =
     replies_from s new log (λ p. nothing) (fresh_agrees s fresh) (fresh_linked s fresh) run

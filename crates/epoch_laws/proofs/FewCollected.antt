@@ -62,11 +62,13 @@ small_without : (most : ℕ) (front back : List Bag) (bag : Bag)
 small_without most [] back bag h = (h.1, h.0)
 small_without most (x ∷ front) back bag h = let rest = small_without most front back bag h.1 in ((h.0, rest.0), rest.1)
 
+-- where each bag has at most so many jobs, each still has when another such bag is put in
 pub small_put : (most : ℕ) (old new : List Bag) (bag : Bag)
     → IsInserted bag old new → AllSmall most old → length bag.jobs ≤ most → AllSmall most new
 small_put most old new bag at h le = subst (AllSmall most) (sym at.with)
     (small_between most at.front at.back bag (subst (AllSmall most) at.without h) le)
 
+-- where each bag has at most so many jobs, so has one that is taken out, and each one left
 pub small_got : (most : ℕ) (old new : List Bag) (bag : Bag)
     → IsInserted bag new old → AllSmall most old → AllSmall most new × (length bag.jobs ≤ most)
 small_got most old new bag at h =
@@ -108,6 +110,7 @@ eq_true x y e = grind (arith, nat_tests)
 eq_false : (x y : ℕ) → (x == y) ≡ false → x ≢ y
 eq_false x y e = grind (arith, nat_tests)
 
+-- at each stage no more jobs are held than a bag has room for
 pub weak : (most held : ℕ) (s : Stage) → HeldFits most held s → held ≤ most
 weak most held Keep h = omega arith
 weak most held _ h = h
@@ -159,6 +162,7 @@ module _ (z : Sizes) (sized : IsSized z) where
         let calls_so : called ≤ (k + 1) * z.bag_jobs = rw add-one (omega arith) in
         (held, (few, calls_so, omega arith)))
 
+  -- at each stage the call under way has taken no more bags and called no more jobs than it may
   pub bound : (taken called hand : ℕ) (a : Action) (s : Stage)
       → CountAt z taken called hand a s → (taken ≤ z.collect_bags) × (called ≤ z.collect_bags * z.bag_jobs)
   bound taken called hand a LoadPin h = (omega arith, omega arith)
@@ -420,6 +424,7 @@ module _ (z : Sizes) (sized : IsSized z) where
         silent (DeferDestroy g ptr) = full m.full
         silent _ = refl
 
+    -- a step Go keeps the counts of the call under way within bounds, and each bag small
     pub go_counts : AllLinked old → old.sizes ≡ z → position_word old q ≢ Free → (progress : Progress)
         → seat.progress ≡ progress → Here m.stage → DoesGo old q seat progress r new → GoesTo
     go_counts linked at taken_now Idle is h did = goes_to seat old.queued _ did.0 (ap (λ (s : State). s.queued) did.1)

@@ -31,6 +31,7 @@ none_of_last n last = grind (arith, nat_tests)
 some_of_rest : (n : ℕ) → 0 < n → (n == 1) ≡ false → (n - 1 == 0) ≡ false
 some_of_rest n some more = grind (arith, nat_tests)
 
+-- from rest a machine may go on to the first stage of an action that its guards allow
 pub next_begun : (v : View) (p : ℕ) (m : Machine Deferral) (a : Action) → Allows a m.guards
     → IsNext v p (not (m.guards == 0)) (begun a m) (first_stage a m)
 next_begun v p m Pin given = by_test (IsNext v p _ (begun Pin m)) (m.guards == 0) LoadPin End

@@ -12,6 +12,7 @@ FitsBefore log k entry = Fits (take k log) entry.step entry.reply
 abbrev pub FitsAt : List Entry → ℕ → Type 0
 FitsAt log k = (entry : Entry) → slice_get log k ≡ Some entry → FitsBefore log k entry
 
+-- each reply of a log fits where the entry at each of its places does
 pub all_fit : (log : List Entry) → ((k : ℕ) → k < length log → FitsAt log k) → EachFits log
 all_fit log each k entry at = each k (slice_get_within log k entry at) entry at
 
@@ -20,6 +21,7 @@ pub fits_read : (log : List Entry) (k : ℕ) (default : Entry) → k < length lo
     → FitsBefore log k (get_or log k default)
 fits_read log k default within all = all k (get_or log k default) (slice_get-get_or log k default within)
 
+-- the entry at a place fits where the one read there does
 pub read_fits : (log : List Entry) (k : ℕ) (default : Entry) → FitsBefore log k (get_or log k default) → FitsAt log k
 read_fits log k default fits entry at =
     subst (FitsBefore log k) (get_or_from_slice_get log k entry default at) fits

@@ -5,6 +5,7 @@ use Rattle.std.proofs.lemmas.Bool.Decides.{nat_tests}
 use Rattle.epoch_cells.specs.PlainCells.{has, if_has}
 use Rattle.epoch_laws.specs.Heap.{Cell}
 
+-- what is found in a slot for a turn is the slot's cell, and the cell has this turn
 pub found_cell : (turn : ℕ) (there : Option Cell) (cell : Cell) → if_has turn there ≡ Some cell
     → (there ≡ Some cell) × (cell.turn ≡ turn)
 found_cell turn None cell e = absurd (cc)

@@ -148,6 +148,7 @@ full_from old new (x ∷ log) found h linked (mid, did, run) =
     let shown : ShowsFull found old mid x.step x.reply = step_shown old mid x.reply found h linked x.step did in
     (shown.0, full_from mid new log _ shown.1 (step_linked old mid x.step x.reply linked did) run)
 
+-- in every run of a new world a call is told that the bags are full just where its put has found each place occupied
 pub found_full : (s new : State) (log : List Entry) → IsFresh s → FullWhereFound s log new
 found_full s new log fresh run = full_from s new log none_found all_free (fresh_linked s fresh) run
   where

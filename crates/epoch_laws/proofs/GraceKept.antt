@@ -137,11 +137,13 @@ holds_aside s log places seen ahead room h = record {
   logged = h.logged;
 }
 
+-- each step keeps what holds of the world and its log
 pub step_holds : (old new : State) (log : List Entry) (x : Entry) → AllLinked old → Holds old log
     → TakesStep old x.step x.reply new → Holds new (log ++ x ∷ [])
 step_holds old new log x linked h did = holds_aside new _ _ _ _ _
     (kind_holds old log h linked x.step x.reply _ (step_kind old _ x.step x.reply did.0))
 
+-- each run keeps what holds of the world and its log
 pub runs_hold : (old new : State) (log entries : List Entry) → AllLinked old → Holds old log → Runs old entries new
     → Holds new (log ++ entries)
 runs_hold old new log [] linked h run =
@@ -151,6 +153,7 @@ runs_hold old new log (x ∷ entries) linked h (mid, did, run) =
     (runs_hold mid new (log ++ x ∷ []) entries (step_linked old mid x.step x.reply linked did)
     (step_holds old mid log x linked h did) run)
 
+-- what holds of the world and its log holds of a new world, whose log is empty
 pub fresh_holds : (s : State) → IsFresh s → Holds s []
 fresh_holds s fresh = record {
   since = λ p. 0;
@@ -177,6 +180,7 @@ fresh_holds s fresh = record {
   };
 }
 
+-- in every run of a new world no blocked job is called
 pub every_run_keeps_grace : (s new : State) (log : List Entry) → IsFresh s → Runs s log new → KeepsGrace log
 every_run_keeps_grace s new log fresh run =
     (runs_hold s new [] log (fresh_linked s fresh) (fresh_holds s fresh) run).logged.grace

@@ -26,6 +26,7 @@ under_given : (g : Option ℕ) (guards : List ℕ) (fault : Option Fault)
 under_given None guards fault e = tt
 under_given (Some g) guards fault e = guard_given _ _ _ e
 
+-- a call that isn't refused is one that the guards counted, and the one paused, allow
 pub guards_allowed : (c : Call) (seat : WorldSeat) (tickets : ℕ) (heap : Heap) → call_refusal c seat tickets heap ≡ None
     → GuardsAllow c seat.guards seat.paused
 guards_allowed Pin seat n heap e = has_room _ _ _ refl e

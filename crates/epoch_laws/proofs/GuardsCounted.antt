@@ -31,6 +31,7 @@ times_without g h (x ∷ guards) = at_first (times_without g h guards) (x == h) 
     at_first rest true tells = grind (arith, nat_tests, times_cons g x guards)
     at_first rest false tells = grind (arith, nat_tests, times_cons g x guards, times_cons g x (without h guards))
 
+-- a guard that is taken away is in the list once less, if it was, and every other as often as before
 pub times_taken : (g h : ℕ) (change : GuardChange) (guards : List ℕ) → change ≡ Takes h
     → times_in g (changed change guards) ≡ (if h == g then times_in g guards - 1 else times_in g guards)
 times_taken g h change guards is =
@@ -59,10 +60,12 @@ out_counted g (x ∷ guards) = at_first (x == g) refl (out_counted g guards)
     at_first true same rest = grind (arith, nat_tests, times_cons g x guards)
     at_first false other rest = grind (arith, nat_tests, times_cons g x guards)
 
+-- a list of one guard, in which this guard is once, is of this guard alone
 pub only_one : (g : ℕ) (guards : List ℕ) → length guards ≡ 1 → times_in g guards ≡ 1 → guards ≡ g ∷ []
 only_one g [] one times = absurd (omega arith)
 only_one g (x ∷ []) one times = ap (λ (k : ℕ). k ∷ []) (grind (arith, nat_tests, times_cons g x []))
 only_one g (x ∷ y ∷ guards) one times = absurd (omega arith)
 
+-- in a list of this guard alone, it is once
 pub times_of_one : (g : ℕ) → times_in g (g ∷ []) ≡ 1
 times_of_one g = grind (arith, nat_tests, times_cons g g [])

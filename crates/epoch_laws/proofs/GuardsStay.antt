@@ -67,15 +67,19 @@ seat_ended seat (Resume None) = (refl, refl, refl)
 seat_ended seat (Resume (Some h)) = (refl, refl, refl)
 seat_ended seat _ = (refl, refl, refl)
 
+-- once a call has ended, its participant has none under way
 pub idle_ended : (seat : WorldSeat) (c : Call) → (ended_seat c seat).progress ≡ Idle
 idle_ended seat c = (seat_ended seat c).0
 
+-- when a call ends, its machine ends its action
 pub machine_ended : (seat : WorldSeat) (c : Call) → (ended_seat c seat).machine ≡ ended seat.machine
 machine_ended seat c = (seat_ended seat c).1
 
+-- the end of a call leaves its participant's word as it was
 pub word_ended : (seat : WorldSeat) (c : Call) → (ended_seat c seat).word ≡ seat.word
 word_ended seat c = (seat_ended seat c).2
 
+-- once a call has ended, no call on cells and pointers is under way whose guard has to be out
 pub guarded_ended : (seat : WorldSeat) (c : Call) → Guarded (ended_seat c seat)
 guarded_ended seat c = subst (λ (progress : Progress). GuardsAccess progress (ended_seat c seat).guards)
     (sym (idle_ended seat c)) tt
@@ -91,6 +95,7 @@ module _ (seat : WorldSeat) (g : ℕ) (out : is_out g seat.guards ≡ true) wher
   out_ended (Resume (Some h)) kept = out_pushed g h seat.guards out
   out_ended _ kept = out
 
+  -- a guard that is out stays so at the end of a call that doesn't give it up
   pub is_out_ended : (c : Call) → ¬ (GivesUp g (Driven c)) → IsOut g (ended_seat c seat)
   is_out_ended c kept = (out_ended c kept, λ gives. subst (GivesUp g) (idle_ended seat c) gives)
 
@@ -124,12 +129,15 @@ seat_begun seat (DeferDestroy None ptr) = (refl, refl, refl)
 seat_begun seat (DeferDestroy (Some h) ptr) = (refl, refl, refl)
 seat_begun seat _ = (refl, refl, refl)
 
+-- a call that begins leaves its participant's word as it was
 pub word_begun : (seat : WorldSeat) (c : Call) → (begun_seat c seat).word ≡ seat.word
 word_begun seat c = (seat_begun seat c).0
 
+-- a call that begins leaves the jobs that its participant holds
 pub held_begun : (seat : WorldSeat) (c : Call) → (begun_seat c seat).machine.held ≡ seat.machine.held
 held_begun seat c = (seat_begun seat c).1
 
+-- a call that begins leaves the jobs that its participant has in hand
 pub hand_begun : (seat : WorldSeat) (c : Call) → (begun_seat c seat).machine.hand ≡ seat.machine.hand
 hand_begun seat c = (seat_begun seat c).2
 
@@ -137,6 +145,7 @@ access_gives : (g : ℕ) (a : Access) (b : Bool) → ¬ (GivesUp g (if b then Ac
 access_gives g a true gives = gives
 access_gives g a false gives = gives
 
+-- a guard that is out stays so when a call begins that is no Unpin and no Pause of it
 pub is_out_begun : (seat : WorldSeat) (g : ℕ) (c : Call) → ¬ ((c ≡ Unpin (Some g)) ⊎ (c ≡ Pause (Some g)))
     → is_out g seat.guards ≡ true → IsOut g (begun_seat c seat)
 is_out_begun seat g Pin ne out = (out, λ gives. gives)
@@ -165,6 +174,7 @@ module _ (seat : WorldSeat) (tickets : ℕ) (heap : Heap) where
       (subst (λ (under : Option ℕ). under_guard under seat.guards (access_refusal a seat.readings heap) ≡ None) guard
       ok)
 
+  -- a call on cells and pointers that isn't refused begins with its guard out, if it has one
   pub guarded_begun : (c : Call) → call_refusal c seat tickets heap ≡ None → Guarded (begun_seat c seat)
   guarded_begun (Repin None) ok = tt
   guarded_begun (Repin (Some h)) ok = tt
@@ -183,12 +193,14 @@ module _ (seat : WorldSeat) (tickets : ℕ) (heap : Heap) where
 
 -- A CALL ON CELLS AND POINTERS GOES ON
 
+-- a guard that is out stays so at a step of a call on cells and pointers
 pub is_out_accessed : (seat : WorldSeat) (g : ℕ) (a : Access) (k : ℕ) (told : Accessed) → is_out g seat.guards ≡ true
     → IsOut g (accessed_seat a k told seat)
 is_out_accessed seat g a k (Again found) out = (out, λ gives. gives)
 is_out_accessed seat g a k (Answers answer) out = (out, λ gives. gives)
 is_out_accessed seat g a k NoSlot out = (out, λ gives. gives)
 
+-- a call on cells and pointers that goes on has its guard out still
 pub guarded_accessed : (seat : WorldSeat) (a : Access) (k : ℕ) (found : Ptr) (told : Accessed)
     → GuardsAccess (Accesses a k found) seat.guards → Guarded (accessed_seat a k told seat)
 guarded_accessed seat a k found (Again other) guarded = guarded

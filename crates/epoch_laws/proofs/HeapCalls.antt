@@ -53,6 +53,7 @@ left_beside h n false new (Some cell) e read lowers stays =
     lowered : (it : Cell) → it.readers ≡ 0 → record it { readers = it.readers - 1 } ≡ it
     lowered it none = ap (λ k. record it { readers = k }) (fewer it.readers none)
 
+-- where a cell that has readers gets one less, and else the cells stay, this is what a Leave does to the heap
 pub left_so : (h : Heap) (n : Name) (left : Bool) (new : List Cell)
     → (IsTrue left ↔ HasReader (cell_at h n))
     → (IsTrue left → Lowers n.slot (cell_at h n) h.cells new)
@@ -74,6 +75,7 @@ stored_beside h n f readers ptr content true new there e replaces stays =
     (ap (λ cells. record h { cells = cells }) new_is)
 stored_beside h n f readers ptr content false new there e replaces stays = absurd (cc (e, (stays refl).0))
 
+-- a cell's content that is amended by a pointer in one field writes that field of the heap
 pub stored : (h : Heap) (n : Name) (f readers : ℕ) (ptr : Ptr) (content after : Content)
     (amended : Bool) (new : List Cell)
     → cell_at h n ≡ Some (filled n.turn readers content)
@@ -87,6 +89,7 @@ stored h n f readers ptr content after amended new e is replaces stays =
 
 -- AN UPDATE AND AN EXCHANGE
 
+-- past its first step an update that finds the same pointer again replaces it by the updated one
 pub update_won : (tries : ℕ) (by : Update) (k : ℕ) (found ptr : Ptr) (spot : Spot) (h : Heap) (did : Touched)
     → k ≢ 0 → ptr ≡ found → did ≡ replaced h spot (aligned h (updated_by by ptr)) (Updated ptr)
     → Changes (FetchUpdate tries by) k found ptr spot h did
@@ -95,6 +98,7 @@ update_won tries by (suc k) found ptr spot h did some same is = inl (same, is)
 
 -- A SLOT THAT A PLACE LOOKS AT
 
+-- a Place that looks at a free slot fills it with its value, and answers the name of the slot's turn
 pub placed : (v k : ℕ) (found : Ptr) (h : Heap) (there : Option Cell) (n : Name) (content : Content) (new : List Cell)
     → there ≢ None
     → n.slot ≡ k + 1
@@ -110,6 +114,7 @@ placed v k found h (Some cell) n content new some slot free turn content_is new_
     ∙ ap (λ s. with_cell h.cells s (filled n.turn 0 (record { value = v; fields = nulls 16 }))) (sym slot) in
     inl (free, n, slot, sym turn, ap (λ cells. answers (NameAnswer n) (record h { cells = cells })) cells_are)
 
+-- a Place that looks at a slot that isn't free leaves the cells as they are, and goes on
 pub not_placed : (v k : ℕ) (found : Ptr) (h : Heap) (there : Option Cell) (new : List Cell)
     → there ≢ None
     → IfSome there (λ cell. ¬ IsFree cell)
@@ -119,11 +124,13 @@ not_placed v k found h None new some taken same = absurd (some refl)
 not_placed v k found h (Some cell) new some taken same =
     inr (taken, ap (λ cells. touched (Again found) (record h { cells = cells })) same)
 
+-- at each index within a list something stands
 pub some_there : {X : Type 0} (xs : List X) (i : ℕ) → i < length xs → slice_get xs i ≢ None
 some_there [] i within = absurd (omega (arith, within))
 some_there (x ∷ xs) zero within = λ e. cc e
 some_there (x ∷ xs) (suc i) within = some_there xs i (omega (arith, within))
 
+-- a CompareExchange that finds the pointer that it expects replaces it by the other one
 pub exchanged : (change : Change) (current other : Ptr) (k : ℕ) (found ptr : Ptr) (spot : Spot) (h : Heap)
     (there : Option Ptr) (did : Touched)
     → change ≡ CompareExchange current other
@@ -133,6 +140,7 @@ pub exchanged : (change : Change) (current other : Ptr) (k : ℕ) (found ptr : P
     → ChangesAt change k found spot h there did
 exchanged change current other k found ptr spot h there did is at same done = rw (is, at) (inl (same, done))
 
+-- the slot with this number, at which a Place looks, is filled where it is free
 pub placed_at : (v k s : ℕ) (found : Ptr) (h : Heap) (n : Name) (content : Content) (new : List Cell)
     → s ≡ k + 1
     → k < length h.cells
@@ -149,6 +157,7 @@ placed_at v k s found h n content new is within slot free turn content_is new_is
     (subst (λ (i : ℕ). IfSome (slice_get h.cells i) (λ cell. cell.turn ≡ n.turn)) e turn)
     content_is (new_is ∙ ap (λ (it : ℕ). with_cell h.cells it (filled n.turn 0 content)) is)
 
+-- the slot with this number, at which a Place looks, is left as it is where it isn't free
 pub not_placed_at : (v k s : ℕ) (found : Ptr) (h : Heap) (new : List Cell)
     → s ≡ k + 1
     → k < length h.cells

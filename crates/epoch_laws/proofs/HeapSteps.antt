@@ -46,6 +46,7 @@ pub record MakesAccess (old new : State) (p : ℕ) (a : Access) (k : ℕ) (found
   pub after : (seat_of new p).progress ≡ progress_after a k did.told
   pub heap : new.heap ≡ did.heap
 
+-- somebody makes a step of a call on cells and pointers
 pub record AccessStep (old new : State) (step : Step) : Type 0 where
   pub who : ℕ
   pub goes : step ≡ Go who

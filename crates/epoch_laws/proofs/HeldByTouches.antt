@@ -42,6 +42,7 @@ pub record HoldsEach (Holds : Heap → Type 0) (h : Heap) : Type 0 where
   pub taken : (n : Name) → Holds (taken_by h n (unread (cell_at h n))).heap
   pub pointed : (spot : Spot) (ptr : Ptr) → Holds (with_pointer h spot ptr)
 
+-- what holds of the heap, and of what each change of it leaves, holds after any step on cells and pointers
 pub holds_touched : (Holds : Heap → Type 0) (h : Heap) → HoldsEach Holds h
     → (a : Access) (k : ℕ) (found : Ptr) (did : Touched) → Touches a k found h did → Holds did.heap
 holds_touched Holds h each (Place v) k found did e =

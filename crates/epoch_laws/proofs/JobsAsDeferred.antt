@@ -124,6 +124,8 @@ pub record CallsOne (old new : State) (t : ℕ) (how : Called) : Type 0 where
   pub outcome : how ≡ outcome_of old.heap job.removes
   pub heap : new.heap ≡ heap_after_job old.heap job.removes
 
+-- What a step does to jobs: each job in a bag was in one before or is new, a deferral gets the next ticket, and a job
+-- that is called was in a bag.
 pub record JobsGo (old new : State) (step : Step) (reply : Reply) : Type 0 where
   pub jobs : (job : Deferral) → IsInBag new job → IsInBag old job ⊎ IsNewJob old step reply job
   pub tickets : old.tickets ≤ new.tickets
@@ -434,6 +436,7 @@ kind_jobs old linked _ _ _ (EndIsOver n at none) =
     rest job (inl is) = inr (inl is)
     rest job (inr is) = absurd is
 
+-- where all participants are linked, a step makes no job but by a deferral, and calls none but out of a bag
 pub jobs_go : (old new : State) (step : Step) (reply : Reply) → AllLinked old → (s : Step) → step ≡ s
     → Moves old s reply new → JobsGo old new step reply
 jobs_go old new step reply linked s on did = subst (λ (t : Step). JobsGo old new t reply) (sym on)
@@ -502,6 +505,7 @@ module _ (old new : State) (past : Past) (entry : Entry) (h : JobsHold old past)
         progress = removal.call;
       }
 
+  -- what holds of jobs and their tickets holds after the step too
   pub jobs_push : JobsHold new next
   jobs_push = record {
     jobs = λ job at. elim (go.jobs job at) [ inl was ↦ old_job job (h.jobs job was) | inr fresh ↦ new_job job fresh ];
@@ -511,6 +515,7 @@ module _ (old new : State) (past : Past) (entry : Entry) (h : JobsHold old past)
     ];
   }
 
+  -- a job that the step calls removes the name that its deferral named, or is work
   pub calls_push : CallsAsDeferred past old entry new
   calls_push = record {
     removal = λ t how x told removes.
@@ -544,6 +549,7 @@ jobs_aside old new places seen ahead room step reply go = record {
       record { job = call.job; there = call.there; ticket = call.ticket; outcome = call.outcome; heap = call.heap };
 }
 
+-- where all participants are linked, a step of a run makes no job but by a deferral, whatever it sees of the places
 pub step_jobs : (old new : State) (entry : Entry) → AllLinked old → TakesStep old entry.step entry.reply new
     → JobsGo old new entry.step entry.reply
 step_jobs old new entry linked did = jobs_aside old new old.places old.seen old.ahead old.room entry.step entry.reply
@@ -560,6 +566,7 @@ runs_as_deferred old new (x ∷ log) past linked h (mid, did, run) =
           (jobs_push old mid past x h go) run,
     )
 
+-- what holds of jobs and their tickets holds of a new world, where no bag has a job and no removal was deferred
 pub fresh_jobs : (s : State) → IsFresh s → JobsHold s no_past
 fresh_jobs s fresh = record { jobs = λ job at. absurd (none job at); given = λ t x none. absurd none }
   where
@@ -569,6 +576,7 @@ fresh_jobs s fresh = record { jobs = λ job at. absurd (none job at); given = λ
     none job (inr (inl at)) = subst (IsInBags job) fresh.none_queued at
     none job (inr (inr at)) = subst (IsAtEnd job) fresh.open_end at
 
+-- in every run of a new world a job that is called removes the name that its deferral named, or is work
 pub calls_as_deferred : (s new : State) (log : List Entry) → IsFresh s → (run : Runs s log new)
     → CallsWhatWasDeferred s log new run
 calls_as_deferred s new log fresh run =

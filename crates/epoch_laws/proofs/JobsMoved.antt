@@ -34,6 +34,7 @@ abbrev MovesAt : Machine Deferral → List Bag → Reply → Machine Deferral �
 MovesAt m bags told n queued = (t : ℕ) → times t n.held + times t n.hand + times_queued t queued + calls_of t told
     ≡ times t m.held + times t m.hand + times_queued t bags + deferrals_of t told
 
+-- where it can't be that an end has begun, none has
 pub ending_open : (ending : Ending) → ¬ (ending ≢ Open) → ending ≡ Open
 ending_open Open opened = refl
 ending_open _ opened = absurd (opened (λ is. cc))
@@ -121,6 +122,7 @@ module _ {old new : State} {log : List Entry} {x : Entry} {p : ℕ} {c : Call} (
       goes_on _ seat.word n old.epoch queued old.tickets is g.taken hand held moved
       (none_given old.tickets Stepped refl) did
 
+  -- a step of a put keeps the tally of the tickets
   pub puts : (seal : ℕ) (step : PutStep) (queued : List Bag) → m.hand ≡ [] → x.reply ≡ Stepped
       → PutsHeld seal m old.queued step queued
       → new ≡ acted old p (with_machine seat (put_heard m step)) old.epoch queued old.tickets
@@ -137,6 +139,7 @@ module _ {old new : State} {log : List Entry} {x : Entry} {p : ℕ} {c : Call} (
       stores n queued is (hand_none m.hand n.stage none) (held_put n m.action true (λ full. absurd (cc)))
       (λ t. omega (arith, ap (times_queued t) same)) did
 
+  -- a step that looks for a bag keeps the tally of the tickets
   pub takes : (y k : ℕ) (step : TakeStep) (jobs : List Deferral) (queued : List Bag)
       → m.hand ≡ []
       → x.reply ≡ Stepped
@@ -156,6 +159,7 @@ module _ {old new : State} {log : List Entry} {x : Entry} {p : ℕ} {c : Call} (
       (λ t. omega (arith, ap (times t) none, ap (times t) in_hand, queued_put t queued old.queued bag inserted))
       did
 
+  -- a step that calls the first job in hand keeps the tally of the tickets
   pub calls : (y k : ℕ) (job : Deferral) (jobs : List Deferral) (how : Called) → m.hand ≡ job ∷ jobs
       → x.reply ≡ CalledReply job.ticket how
       → new ≡ with_seat old p (with_machine seat (gives m (Calling y k) jobs))
@@ -168,6 +172,7 @@ module _ {old new : State} {log : List Entry} {x : Entry} {p : ℕ} {c : Call} (
       (λ t. omega arith)
       did
 
+  -- a step that keeps a new job, and gives it the next ticket, keeps the tally of the tickets
   pub keeps : m.hand ≡ [] → PerformsAsk old p seat Keep KeepJob x.reply new → Kept
   keeps none (is, did) =
       let job : Deferral = record { ticket = old.tickets; removes = removed_by seat.progress } in

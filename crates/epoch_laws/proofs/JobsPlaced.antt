@@ -43,6 +43,7 @@ RestsAt (Driven c) s = Unit {0}
 RestsAt (Ends reply) s = (s ≡ Idle) × ((answer : AccessAnswer) × (reply ≡ Done answer))
 RestsAt _ s = s ≡ Idle
 
+-- where a participant may have jobs while its machine is at this stage; at a free position it has none
 pub record PlacesJobs (seat : WorldSeat) (s : Stage) : Type 0 where
   pub hand : HandAt seat.machine.hand s
   pub held : HeldAt seat.machine s
@@ -53,6 +54,7 @@ pub record PlacesJobs (seat : WorldSeat) (s : Stage) : Type 0 where
 abbrev pub PlacesHere : WorldSeat → Type 0
 PlacesHere seat = PlacesJobs seat seat.machine.stage
 
+-- an empty hand is fine at every stage
 pub hand_none : (hand : List Deferral) (s : Stage) → hand ≡ [] → HandAt hand s
 hand_none hand (Calling x k) none = tt
 hand_none hand _ none = none
@@ -66,10 +68,12 @@ held_collected m Release [] none = λ release full. none
 held_collected m Release (job ∷ jobs) is = tt
 held_collected m _ jobs is = tt
 
+-- at the stage after a pin, no job is held if a release can't go back
 pub held_pinned : (m n : Machine Deferral) → n.held ≡ m.held → HeldAt n (after_pin m)
 held_pinned m n same =
     after_pin_at (HeldAt n) m tt (held_collected n m.action m.held same)
 
+-- at the stage after a put that found a place, no job is held if a release can't go back
 pub held_put : (m : Machine Deferral) (a : Action) (full : Bool)
     → (m.full ≡ false → m.held ≡ [])
     → HeldAt m (after_put a full)
@@ -78,22 +82,26 @@ held_put m Defer false none = tt
 held_put m Release full none = λ release. none
 held_put m _ full none = tt
 
+-- at the stage after an unpin, no job is held if a release gives its position up
 pub held_unpinned : (m : Machine Deferral) (a : Action) (full : Bool)
     → (a ≡ Release → full ≡ false → m.held ≡ [])
     → HeldAt m (after_unpin a full)
 held_unpinned m Release false none = none refl refl
 held_unpinned m _ full none = tt
 
+-- at the stage after the call of a job, no job is held if a release can't go back
 pub held_called : (m n : Machine Deferral) (x k : ℕ) (jobs : List Deferral)
     → n.held ≡ m.held
     → HeldAt n (after_job m x k jobs)
 held_called m n x k jobs same =
     after_job_at (HeldAt n) m x k jobs tt tt (held_collected n m.action m.held same)
 
+-- at the stage after the call of a job, jobs are in hand only if they are called next
 pub hand_called : (m : Machine Deferral) (x k : ℕ) (jobs : List Deferral) → HandAt jobs (after_job m x k jobs)
 hand_called m x k (job ∷ jobs) = tt
 hand_called m x k [] = hand_none [] _ refl
 
+-- at the stage after a word of a scan, a release can still go back
 pub held_past : (m : Machine Deferral) (positions e k w : ℕ) → HeldAt m (past_word positions e k w)
 held_past m positions e k w = past_word_at (HeldAt m) positions e k w tt tt tt
 

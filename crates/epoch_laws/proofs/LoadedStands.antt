@@ -62,6 +62,7 @@ module _ (old new : State) (past : Past) (entry : Entry) (c : NamesHold old past
       touch_changes access.call access.steps access.found old.heap access.makes.did access.makes.touches in
       subst Rises (sym access.makes.heap) (changes.risen, changes.start)
 
+  -- at the step a name that was given stays given
   pub still : (x : Name) → WasGiven old.heap x → WasGiven new.heap x
   still x was = (stays_given old new entry took x was.0, subst (λ (k : ℕ). k ≤ x.turn) (sym (rises goes).1) was.1)
 
@@ -112,6 +113,7 @@ module _ (old new : State) (past : Past) (entry : Entry) (c : NamesHold old past
     ]
   ]
 
+  -- what holds of names and pointers holds after the step too
   pub names_push : NamesHold new next
   names_push = record {
     leads = λ spot x leads. still x (led goes spot x leads);
@@ -131,6 +133,7 @@ names_along old new (entry ∷ log) past linked h c (mid, took, run) =
     names_along mid new log (past_after past old entry mid) (step_linked old mid entry.step entry.reply linked took)
     (jobs_push old mid past entry h go) (names_push old mid past entry c h go took) run
 
+-- what holds of names and pointers holds of a new world, where no name was given and no pointer leads to one
 pub fresh_names : (s : State) → IsFresh s → NamesHold s no_past
 fresh_names s fresh = record {
   leads = leads;
@@ -162,6 +165,7 @@ fresh_names s fresh = record {
             none_lead s.heap.start_turn y.turn f x
             (subst (λ (d : Cell). FieldLeads (if_has y.turn (Some d)) f x) one field)
 
+-- in every run of a new world whose cells leave rightly, each name loaded under a guard still held has its cell
 pub loaded_stand : (s new : State) (log : List Entry) → IsFresh s → (run : Runs s log new) → LeavesOnce s log new run
     → LoadedStand (past_of s log new run) new.heap
 loaded_stand s new log fresh run leaves p g x loaded =

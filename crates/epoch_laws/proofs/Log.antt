@@ -15,6 +15,7 @@ IsPublish r p = (r ≡ Pinned p) ⊎ (r ≡ Repinned p)
 abbrev pub IsWithdrawal : Reply → ℕ → Type 0
 IsWithdrawal r p = (r ≡ Unpinned p) ⊎ (r ≡ Repinned p)
 
+-- a reply in the log with one more entry stood in it before, or is that of the last entry
 pub stands_push : (log : List Entry) (x : Entry) (k : ℕ) (event : Reply) → IsReplyAt (log ++ x ∷ []) k event
     → IsReplyAt log k event ⊎ ((k ≡ length log) × (x.reply ≡ event))
 stands_push [] x zero event h = inr (refl, cc)
@@ -23,16 +24,19 @@ stands_push (first ∷ log) x zero event h = inl h
 stands_push (first ∷ log) x (suc k) event h =
     elim (stands_push log x k event h) [ inl old ↦ inl old | inr new ↦ inr (ap suc new.0, new.1) ]
 
+-- a reply in the log stays where it is when one more entry comes
 pub stands_keep : (log : List Entry) (x : Entry) (k : ℕ) (event : Reply) → IsReplyAt log k event
     → IsReplyAt (log ++ x ∷ []) k event
 stands_keep [] x k event h = absurd (cc)
 stands_keep (first ∷ log) x zero event h = h
 stands_keep (first ∷ log) x (suc k) event h = stands_keep log x k event h
 
+-- the reply of one more entry comes to stand at the end of the log
 pub stands_new : (log : List Entry) (x : Entry) → IsReplyAt (log ++ x ∷ []) (length log) x.reply
 stands_new [] x = refl
 stands_new (first ∷ log) x = stands_new log x
 
+-- a reply stands at a place within the log
 pub stands_within : (log : List Entry) (k : ℕ) (event : Reply) → IsReplyAt log k event → k < length log
 stands_within [] k event h = absurd (cc)
 stands_within (first ∷ log) zero event h = omega arith
@@ -135,6 +139,7 @@ withdraws_push log x k p (inl h) =
 withdraws_push log x k p (inr h) =
     elim (stands_push log x k _ h) [ inl old ↦ inl (inr old) | inr new ↦ inr (new.0, inr new.1) ]
 
+-- one more entry makes the log longer by one
 pub length_push : (log : List Entry) (x : Entry) → length (log ++ x ∷ []) ≡ length log + 1
 length_push [] x = refl
 length_push (first ∷ log) x = omega (arith, length_push log x)
@@ -155,6 +160,7 @@ pinned_new log x p h = record {
   lasts = λ k lt ends. absurd (omega (arith, withdraws_within (log ++ x ∷ []) k p ends, length_push log x));
 }
 
+-- the place since which somebody is pinned is within the log
 pub pinned_within : (log : List Entry) (p at : ℕ) → PinnedSince log p at → at < length log
 pinned_within log p at now = publishes_within log at p now.published
 

@@ -31,6 +31,7 @@ pub record Tells (v w : View) (r : Reply) : Type 0 where
   pub called : (t : ℕ) (how : Called) → r ≡ CalledReply t how
       → (t < v.tickets) × ((p : ℕ) → is_pinned (v.word p) ≡ true → v.when t < v.since p)
 
+-- after one more reply that agrees with how the view changes, what was told agrees with the view still
 pub log_push : (v w : View) (log : List Entry) (x : Entry) → LogHolds v log → Passes v w → Tells v w x.reply
     → LogHolds w (log ++ x ∷ [])
 log_push v w log x h pass tells = record {

@@ -144,6 +144,7 @@ begins_ready Open room ReleaseAction m free = (refl, λ e. free)
 abbrev Open : State → Type 0
 Open s = length s.queued < length s.places
 
+-- nobody but p is putting or taking a bag, and what p's call rests on at its stage holds
 pub record IsLone (p : ℕ) (s : State) : Type 0 where
   pub linked : AllLinked s
   pub others : (q : ℕ) → q ≢ p → is_at_places (seat_of s q).machine.stage ≡ false
@@ -550,6 +551,7 @@ call_calm p c s new (r ∷ []) all_linked free (mid, did, run) over last =
 call_calm p c s new (r ∷ x ∷ rs) all_linked free (mid, did, run) over last =
     goes_calm p mid new (x ∷ rs) (begin_lone p c s mid r all_linked free did over.0) run last
 
+-- in a run from a new world, a call that nobody disturbs isn't told that the bags are full, if a place was free
 pub lone_calls : (fresh s new : State) (earlier : List Entry) (p : ℕ) (c : Call) (replies : List Reply)
     → IsFresh fresh → Runs fresh earlier s → HasFreePlace p s
     → EndsCall p c s replies new → ¬ (EndsIn (Refused BagsFull) replies)

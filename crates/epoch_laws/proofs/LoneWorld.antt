@@ -57,6 +57,7 @@ seat word m progress guards =
 abbrev pub name : Name
 name = record { turn = 0; slot = 1; some = omega arith; within = omega arith }
 
+-- with nobody registered, a null root and a free cell the world is a new one
 pub lone_fresh : (fields : ℕ) → IsFresh (lone_world 0 (free_seat sizes) 0 (lone_heap fields null (empty 0)))
 lone_fresh fields = record {
   sized = refl;

@@ -8,6 +8,7 @@ abbrev SameAt : Name → ℕ → Type 0
 SameAt n k =
     (some : 0 < k) (within : k ≤ 16777215) → n ≡ record { turn = n.turn; slot = k; some = some; within = within }
 
+-- names with the same slot and the same turn are the same name
 pub name_same : (n m : Name) → n.slot ≡ m.slot → n.turn ≡ m.turn → n ≡ m
 name_same n m slot turn = subst (λ (t : ℕ). n ≡ record m { turn = t }) turn (subst (SameAt n) slot here m.some m.within)
   where

@@ -23,9 +23,11 @@ module _ (old new : State) (entry : Entry) (took : TakesStep old entry.step entr
   stays_along (inr (inr (inr access))) = subst (StaysGiven old.heap) (sym access.makes.heap)
       (touches_given access.call access.steps access.found old.heap access.makes.did access.makes.touches)
 
+  -- at the step a name that was given stays given
   pub stays_given : StaysGiven old.heap new.heap
   stays_given = stays_along (heap_goes old aside entry.step entry.reply entry.step refl took.0)
 
+  -- a name that the step gives wasn't given before it, and is given after it
   pub gives_new : (x : Name) → GivesName old entry new x → GivesNew old.heap new.heap x
   gives_new x gives =
       by_access (access_goes old aside entry.step entry.reply gives.who (Place gives.value) gives.steps gives.found
@@ -52,5 +54,6 @@ runs_give old new (entry ∷ log) given h (mid, took, run) = (
     more x (inl was) = stays_given old mid entry took x (h x was)
     more x (inr gives) = (gives_new old mid entry took x gives).given
 
+-- in every run no name is given twice
 pub no_name_twice : (s new : State) (log : List Entry) → (run : Runs s log new) → GivesNoNameTwice s log new run
 no_name_twice s new log run = runs_give s new log (λ x. ⊥) (λ x none. absurd none) run

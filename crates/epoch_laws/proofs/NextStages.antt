@@ -8,6 +8,7 @@ use Rattle.epoch_machine.proofs.StagesAfter.{after_pin_at, after_job_at}
 use Rattle.epoch_laws.specs.declared.step.Deferral.{Deferral}
 use Rattle.epoch_laws.proofs.SeatsFine.{View, is_release, ends_unguarded, IsNext, HandExpired}
 
+-- a machine may go on to its action's end with its word pinned where a guard is counted then, and else unpinned
 pub next_end : (v : View) (p : ℕ) (m : Machine Deferral) (b : Bool) → ends_unguarded m ≡ b → IsNext v p (not b) m End
 next_end v p m b h = record { publishes = ap not h; aims = tt; knows = tt }
 
@@ -24,10 +25,12 @@ collected v p m Repin jobs h aim = next_end v p m false h
 collected v p m Defer jobs h aim = next_end v p m false h
 collected v p m Flush jobs h aim = next_end v p m false h
 
+-- a collection may go on to the stage after it, where the action ends without a guard exactly if it is a release
 pub next_collected : (v : View) (p : ℕ) (m : Machine Deferral) (jobs : List Deferral)
     → ends_unguarded m ≡ is_release m.action → IsNext v p true m (after_collect m.action jobs)
 next_collected v p m jobs aim = collected v p m m.action jobs aim aim
 
+-- the same of the stage after a pin
 pub next_pinned : (v : View) (p : ℕ) (m : Machine Deferral) → ends_unguarded m ≡ is_release m.action
     → IsNext v p true m (after_pin m)
 next_pinned v p m aim = after_pin_at (IsNext v p true m) m
@@ -44,10 +47,12 @@ put_next v p m Pin full h aim = next_end v p m false h
 put_next v p m Unpin full h aim = next_end v p m false h
 put_next v p m Repin full h aim = next_end v p m false h
 
+-- the same of the stage after a put
 pub next_put : (v : View) (p : ℕ) (m : Machine Deferral) (full : Bool) → ends_unguarded m ≡ is_release m.action
     → IsNext v p true m (after_put m.action full)
 next_put v p m full aim = put_next v p m m.action full aim aim
 
+-- an unpin may go on to the stage after it, where the action ends without a guard
 pub next_unpinned : (v : View) (p : ℕ) (m : Machine Deferral) (a : Action) (full : Bool) → ends_unguarded m ≡ true
     → IsNext v p false m (after_unpin a full)
 next_unpinned v p m Release false aim = record { publishes = refl; aims = tt; knows = tt }

@@ -14,6 +14,7 @@ phase_from_more phase (x ∷ log) zero default within = refl
 phase_from_more phase (x ∷ log) (suc i) default within =
     phase_from_more (phase_after phase x.step x.reply) log i default (omega arith)
 
+-- how far the end is after one more entry follows from how far it was and from the entry
 pub phase_more : (log : List Entry) (i : ℕ) (default : Entry) → i < length log
     → phase_of (take (i + 1) log)
     ≡ phase_after (phase_of (take i log)) (get_or log i default).step (get_or log i default).reply

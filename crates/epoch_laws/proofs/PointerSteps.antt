@@ -28,6 +28,7 @@ set_or_kept (x ∷ xs) (suc i) y (suc j) = elim (set_or_kept xs i y j) [
 ]
 set_or_kept _ _ y _ = inl refl
 
+-- a write to a list leaves every other place as it was
 pub set_other : {A : Type 0} (xs : List A) (i : ℕ) (y : A) (j : ℕ)
     → j ≢ i → slice_get (slice_set xs i y) j ≡ slice_get xs j
 set_other xs i y j ne = elim (set_or_kept xs i y j) [ inl kept ↦ kept | inr new ↦ absurd (ne new.0) ]
@@ -42,6 +43,7 @@ FieldLeads cell f x = (ptr : Ptr) × (field_in cell f ≡ Some ptr) × (ptr.name
 abbrev pub Fewer : Heap → Heap → Type 0
 Fewer old new = (spot : Spot) (x : Name) → Leads new spot x → Leads old spot x
 
+-- where the heap stays the same, no pointer leads where it didn't before
 pub fewer_same : (old new : Heap) → new ≡ old → Fewer old new
 fewer_same old new e spot x leads = subst (λ h. Leads h spot x) e leads
 

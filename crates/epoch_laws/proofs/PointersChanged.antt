@@ -35,6 +35,7 @@ fewer_without h n Destroyed =
 fewer_without h n HeldElsewhere = fewer_same h h refl
 fewer_without h n Gone = fewer_same h h refl
 
+-- at the call of a job, no pointer comes to lead where it didn't before
 pub fewer_job : (h : Heap) (removes : Option Name) → Fewer h (heap_after_job h removes)
 fewer_job h None = fewer_same h h refl
 fewer_job h (Some n) = fewer_without h n (removal_of (cell_at h n))

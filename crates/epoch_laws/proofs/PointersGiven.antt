@@ -154,6 +154,7 @@ both : (a b : Bool) → (a && b) ≡ true → (a ≡ true) × (b ≡ true)
 both true b h = (refl, h)
 both false b h = absurd (cc)
 
+-- a name that passes the test was given, at the first turn of its slot or later
 pub known_given : (h : Heap) (x : Name) → was_given h x ≡ true → WasGiven h x
 known_given h x e = at_cell (slice_get h.cells (x.slot - 1)) refl e
   where
@@ -174,6 +175,7 @@ known_given h x e = at_cell (slice_get h.cells (x.slot - 1)) refl e
         let lt : x.turn < next_turn cell = below x.turn cell.turn cell.value parts.1 in
         (subst (λ (c : Option Cell). GivenAt x.turn c) (sym there) lt, later h.start_turn x.turn parts.0)
 
+-- where a call under a guard isn't refused, there is no other fault
 pub under_given : (g : Option ℕ) (guards : List ℕ) (fault : Option Fault)
     → under_guard g guards fault ≡ None → fault ≡ None
 under_given None guards fault e = e
@@ -183,6 +185,7 @@ under_given (Some g) guards fault e = at_test (is_out g guards) e
     at_test true e = e
     at_test false e = absurd (cc)
 
+-- where neither a test nor what follows it finds a fault, what follows finds none
 pub inner : (b : Bool) (f : Fault) (o : Option Fault) → (if b then o else Some f) ≡ None → o ≡ None
 inner true f o e = e
 inner false f o e = absurd (cc)

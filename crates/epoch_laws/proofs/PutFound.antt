@@ -86,6 +86,8 @@ cut p first pin unpin going puts flushes last whole =
     ∙ ap (λ (es : List Entry). pin ++ es) (append_assoc (first ∷ goes_of p puts) (goes_of p (flushes ++ last)) unpin)
     ∙ sym (append_assoc pin (first ∷ goes_of p puts) (goes_of p (flushes ++ last) ++ unpin))
 
+-- In every run of a new world, enough rounds of a participant whom nobody disturbs call every job that is in the store
+-- when the first of them has put its bag, if the flush of that one isn't refused.
 pub rounds_call_all : (fresh s new : State) (earlier log : List Entry)
     → IsFresh fresh → Runs fresh earlier s → Runs s log new → RoundsCallAll s log new
 rounds_call_all fresh s new earlier log is_fresh run goes p first others later whole quiet small round told =

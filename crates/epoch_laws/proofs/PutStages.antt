@@ -28,9 +28,11 @@ abbrev pub FoundWhere : (found : ℕ → Type 0) (count : ℕ) → Bool → Type
 FoundWhere found count true = FoundEach found count
 FoundWhere found count false = 0 < count → ¬ (FoundEach found count)
 
+-- a call that has found no place hasn't found each, where there is one
 pub none_missed : (found : ℕ → Type 0) (count : ℕ) → NoneFound found → FoundWhere found count false
 none_missed found count none some each = none 0 (each 0 some)
 
+-- nor has a call whose put hasn't seen each place yet
 pub seen_missed : (found : ℕ → Type 0) (count seen : ℕ) → FoundSeen found count seen → FoundWhere found count false
 seen_missed found count seen at some each = absurd (omega (arith, at.only seen (each seen (at.short some))))
 

@@ -23,6 +23,7 @@ bags_stay seal m old new Again put on = put
 bags_stay seal m old new Done put on = absurd (on refl)
 bags_stay seal m old new Full put on = put
 
+-- a step of a put that leaves the bags as they were hasn't put one
 pub not_done : (seal : ℕ) (m : Machine Deferral) (old new : List Bag) (step : PutStep) → PutsHeld seal m old step new
     → new ≡ old → step ≢ Done
 not_done seal m old new Again put same = λ done. cc

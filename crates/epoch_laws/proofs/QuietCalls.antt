@@ -107,6 +107,7 @@ KnowsAt v epoch left ahead w StoreUnpinned = IsUnpin v.call × (epoch ≡ v.epoc
 KnowsAt v epoch left ahead w End = After v epoch left w v.call
 KnowsAt v epoch left ahead w _ = ⊥
 
+-- what is known of p's machine and word, of the epoch and of the bags at this stage of the call
 pub record Known (v : Plan) (called : ℕ → ℕ) (epoch : ℕ) (queued : List Bag) (ahead : ℕ) (w : Word)
     (m : Machine Deferral) (s : Stage) : Type 0 where
   pub held : m.held ≡ v.held
@@ -166,6 +167,7 @@ Comes v called r s ahead =
 pub eq_true : (x y : ℕ) → (x == y) ≡ true → x ≡ y
 eq_true x y e = grind (arith, nat_tests)
 
+-- two numbers whose test fails differ
 pub eq_false : (x y : ℕ) → (x == y) ≡ false → x ≢ y
 eq_false x y e = grind (arith, nat_tests)
 
@@ -205,6 +207,7 @@ unpinned_end (Unpin (Some g)) full h = refl
 unpinned_end (Unpin None) full h = absurd h
 unpinned_end _ full h = absurd h
 
+-- what an unpin has done at its end: the word is unpinned, in the round's epoch, and no more bags are left than before
 pub unpinned_after : (v : Plan) (epoch left : ℕ) (c : Call)
     → IsUnpin c → epoch ≡ v.epoch → left ≤ v.bags → After v epoch left Unpinned c
 unpinned_after v epoch left (Unpin (Some g)) h e few = (refl, e, few)
@@ -246,6 +249,7 @@ pub enough_same : (k left left' ahead ahead' : ℕ)
 enough_same k left left' ahead ahead' (inl e) count same = inl (omega arith)
 enough_same k left left' ahead ahead' (inr e) count same = inr (omega arith)
 
+-- it stays enough where one more bag was taken
 pub enough_less : (k left left' ahead ahead' : ℕ)
     → Enough k left ahead → ahead + left' ≡ ahead' + left → left ≡ left' + 1 → Enough (k + 1) left' ahead'
 enough_less k left left' ahead ahead' (inl e) count same = inl (omega arith)
@@ -272,6 +276,7 @@ full_ends : (full : Bool) → ends_call (full_or_done full) ≡ true
 full_ends true = refl
 full_ends false = refl
 
+-- what a call is told at its end does end it, whether its put found a place or not
 pub told_ends : (c : Call) (full : Bool) → ends_call (told_of c full) ≡ true
 told_ends Pin full = refl
 told_ends (Flush g) full = full_ends full

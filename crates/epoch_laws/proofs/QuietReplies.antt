@@ -20,10 +20,12 @@ pub record IsPlain (r : Reply) : Type 0 where
   pub withdrawn : (q : ℕ) → ¬ (IsWithdrawal r q)
   pub deferred : (t : ℕ) → r ≢ Deferred t
 
+-- nor is it told that a deferred job was called
 pub record IsQuiet (r : Reply) : Type 0 where
   pub plain : IsPlain r
   pub called : (t : ℕ) (how : Called) → r ≢ CalledReply t how
 
+-- a reply is plain if it tells of no pin, no repin, no unpin and no deferral
 pub plain_by : (r : Reply) → ((q : ℕ) → r ≢ Pinned q) → ((q : ℕ) → r ≢ Repinned q) → ((q : ℕ) → r ≢ Unpinned q)
     → ((t : ℕ) → r ≢ Deferred t) → IsPlain r
 plain_by r pinned repinned unpinned deferred = record {
@@ -32,33 +34,39 @@ plain_by r pinned repinned unpinned deferred = record {
   deferred = deferred;
 }
 
+-- the reply that a deferred job was called is plain
 pub plain_called : (r : Reply) (t : ℕ) (how : Called) → r ≡ CalledReply t how → IsPlain r
 plain_called r t how e = plain_by r (λ q h. cc) (λ q h. cc) (λ q h. cc) (λ u h. cc)
 
+-- the reply that a step was made is quiet
 pub quiet_stepped : (r : Reply) → r ≡ Stepped → IsQuiet r
 quiet_stepped r e = record {
   plain = plain_by r (λ q h. cc) (λ q h. cc) (λ q h. cc) (λ t h. cc);
   called = λ t how h. cc;
 }
 
+-- the reply that a call began is quiet
 pub quiet_began : (r : Reply) → r ≡ Began → IsQuiet r
 quiet_began r e = record {
   plain = plain_by r (λ q h. cc) (λ q h. cc) (λ q h. cc) (λ t h. cc);
   called = λ t how h. cc;
 }
 
+-- the reply that a job was called at once is quiet
 pub quiet_now : (r : Reply) (how : Called) → r ≡ CalledNow how → IsQuiet r
 quiet_now r how e = record {
   plain = plain_by r (λ q h. cc) (λ q h. cc) (λ q h. cc) (λ t h. cc);
   called = λ t how h. cc;
 }
 
+-- the answer at the end of a call is quiet
 pub quiet_done : (r : Reply) (a : AccessAnswer) → r ≡ Done a → IsQuiet r
 quiet_done r a e = record {
   plain = plain_by r (λ q h. cc) (λ q h. cc) (λ q h. cc) (λ t h. cc);
   called = λ t how h. cc;
 }
 
+-- a refusal is quiet
 pub quiet_refused : (r : Reply) (f : Fault) → r ≡ Refused f → IsQuiet r
 quiet_refused r f e = record {
   plain = plain_by r (λ q h. cc) (λ q h. cc) (λ q h. cc) (λ t h. cc);

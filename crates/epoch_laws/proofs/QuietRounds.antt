@@ -41,13 +41,16 @@ runs_split s t (x ∷ a) b (mid, did, run) =
     let parts = runs_split mid t a b run in
     (parts.0, (mid, did, parts.1), parts.2)
 
+-- how often a job was called adds up over two logs, one after the other
 pub called_append : (t : ℕ) (a b : List Entry) → times_called t (a ++ b) ≡ times_called t a + times_called t b
 called_append t a b = sum_by-append (λ (x : Entry). calls_of t x.reply) a b
 
+-- an entry in front of a log adds its own call of a job, if it is one
 pub called_cons : (t : ℕ) (x : Entry) (log : List Entry)
     → times_called t (x ∷ log) ≡ calls_of t x.reply + times_called t log
 called_cons t x log = sum_by-cons (λ (y : Entry). calls_of t y.reply) x log
 
+-- p is between two calls all the same where the calls of jobs are counted in another way, to the same numbers
 pub recount : (p : ℕ) (sizes : Sizes) (jobs : List Deferral) (out : List ℕ) (bound : ℕ) (total called other : ℕ → ℕ)
     (s : State) → ((t : ℕ) → other t ≡ called t)
     → Rests p sizes jobs out bound total called s → Rests p sizes jobs out bound total other s
@@ -104,6 +107,7 @@ pub begun_by : (old new : State) (p : ℕ) (c : Call) (o : Option Fault)
 begun_by old new p c (Some f) did = absurd (cc (did.0))
 begun_by old new p c None did = did.1
 
+-- an accepted Begin leads from a state between two calls to one in which the call is under way
 pub begins : (v : Plan) (a : Action) (t : Stage) (called : ℕ → ℕ) (old new : State)
     → Rests v.p v.sizes v.held (guards_in v.call) v.bound v.total called old
     → TakesStep old (Begin v.p v.call) Began new

@@ -43,6 +43,7 @@ GuardsAccess _ guards = Unit {0}
 abbrev pub Guarded : WorldSeat → Type 0
 Guarded seat = GuardsAccess seat.progress seat.guards
 
+-- where a guard is out, the number of guards counted isn't zero
 pub some_counted : (g : ℕ) (guards : List ℕ) (n : ℕ) → n ≡ length guards → is_out g guards ≡ true → (n == 0) ≡ false
 some_counted g [] n counted out = absurd (cc)
 some_counted g (first ∷ guards) n counted out = more (length guards) n counted

@@ -69,6 +69,7 @@ last = world (pinned (Ends (Done (Value 7)))) 1 (heap ptr (empty 1))
 pub taken_unpinned : Unpinned ≢ Free
 taken_unpinned e = cc
 
+-- the participant is registered while it is pinned, too
 pub taken_pinned : Pinned 0 ≢ Free
 taken_pinned e = cc
 

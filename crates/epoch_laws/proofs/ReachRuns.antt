@@ -34,6 +34,7 @@ none_reached s fresh x (from_root i _ leads) =
     let none : leads.0 ≡ null = fresh.null_roots i leads.0 leads.1 in cc (leads.2, ap (λ (ptr : Ptr). ptr.name) none)
 none_reached s fresh x (from_field y f _ r leads) = none_reached s fresh y r
 
+-- what is kept of reach holds of a new world, where nothing is loaded, removed or destroyed
 pub fresh_reach : (s : State) → IsFresh s → ReachHolds s [] no_past
 fresh_reach s fresh = record {
   recent = λ p x. ⊥;
@@ -52,6 +53,7 @@ pub none_recent : (s : State) (fresh : IsFresh s) (p : ℕ) (x : Name) → ¬ ((
 unfolding fresh_reach
 none_recent s fresh p x recent = recent
 
+-- in every run of a new world whose cells leave rightly, no name loaded under a guard still held is destroyed
 pub every_run_keeps_reach : (s new : State) (log : List Entry) → IsFresh s → (run : Runs s log new)
     → LeavesOnce s log new run → KeepsLoaded (past_of s log new run)
 every_run_keeps_reach s new log fresh run leaves =

@@ -19,6 +19,7 @@ pub record IsReadable (h : Heap) (n : Name) : Type 0 where
   pub field : Ptr
   pub entry : slice_get content.fields 0 ≡ Some field
 
+-- a reading of such a cell is lent its value
 pub readable_is : (h : Heap) (n : Name) (is : IsReadable h n) → readable (cell_at h n) ≡ Some is.content
 readable_is h n is = ap (λ (o : Option Cell). readable o) is.there ∙ at_test (is.cell.readers == 1073741823) refl
   where
@@ -26,6 +27,7 @@ readable_is h n is = ap (λ (o : Option Cell). readable o) is.there ∙ at_test 
     at_test true test = absurd (is.room (let same : is.cell.readers ≡ 1073741823 = grind (arith, nat_tests) in same))
     at_test false test = is.value
 
+-- the pointer in its first field is the one that its value has there
 pub field_is : (h : Heap) (n : Name) (is : IsReadable h n) → pointer_at h (Field n 0) ≡ Some is.field
 field_is h n is =
     ap (λ (o : Option Cell). field_in o 0) is.there ∙ ap (λ (o : Option Content). field_of o 0) is.value ∙ is.entry

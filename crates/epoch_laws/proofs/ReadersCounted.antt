@@ -42,6 +42,7 @@ name_is n m same =
     turns true a b e = grind (arith, nat_tests)
     turns false a b e = absurd (cc (e))
 
+-- the test of two names holds of a name and itself
 pub name_self : (n : Name) → is_name n n ≡ true
 name_self n = same n.slot n.turn
   where
@@ -62,9 +63,11 @@ abbrev pub one_of : Option Name → Name → ℕ
 one_of (Some n) m = one n m
 one_of None m = 0
 
+-- a reading in front adds one to the count of its own name, and nothing to that of another
 pub times_cons : (m x : Name) (readings : List Name) → times_read m (x ∷ readings) ≡ one x m + times_read m readings
 times_cons m x readings = sum_by-cons (λ (y : Name). if is_name y m then 1 else 0) x readings
 
+-- a reading at the end adds one to the count of its own name, and nothing to that of another
 pub times_push : (m x : Name) (readings : List Name)
     → times_read m (readings ++ x ∷ []) ≡ times_read m readings + one x m
 times_push m x readings = sum_by-append (λ (y : Name). if is_name y m then 1 else 0) readings (x ∷ []) ∙ omega arith
@@ -122,6 +125,7 @@ abbrev pub Leaves : Access → List Name → Type 0
 Leaves (Leave ptr) readings = reads ptr.name readings ≡ true
 Leaves _ readings = Unit {0}
 
+-- a step of a call adds the name that it begins to read to the readings, and takes out the one that it leaves
 pub readings_told : (a : Access) (told : Accessed) (readings : List Name) (m : Name) → Leaves a readings
     → times_read m (readings_after a told readings) + ends a m ≡ times_read m readings + begins a told m
 readings_told (Read g ptr) (Answers (Value v)) readings m fits = pushed ptr.name
@@ -144,6 +148,7 @@ readings_told _ told readings m fits = refl
 abbrev pub readers_at : Heap → Name → ℕ
 readers_at h n = readers_in (cell_at h n)
 
+-- a cell that nobody reads counts no reader, whatever turn is looked for
 pub none_there : (turn : ℕ) (cell : Cell) → cell.readers ≡ 0 → readers_in (if_has turn (Some cell)) ≡ 0
 none_there turn cell none = at_test (has cell turn)
   where
@@ -164,6 +169,7 @@ free_there turn cell none = at_value cell.value none (cell.turn == turn)
 there_of : (turn : ℕ) (cell : Cell) → has cell turn ≡ true → if_has turn (Some cell) ≡ Some cell
 there_of turn cell test = ap (λ (b : Bool). if b then Some cell else None) test
 
+-- a cell that is found at a turn has a value of that turn
 pub test_of : (turn : ℕ) (there : Option Cell) (cell : Cell) → if_has turn there ≡ Some cell → has cell turn ≡ true
 test_of turn None cell e = absurd (cc (e))
 test_of turn (Some other) cell e = at_test (has other turn) refl e
@@ -221,6 +227,7 @@ pub record FoundAt (h : Heap) (n : Name) (cell : Cell) : Type 0 where
   pub turn : cell.turn ≡ n.turn
   pub test : has cell n.turn ≡ true
 
+-- the cell found under a name stands in the name's slot, with a value of the name's turn
 pub found_at : (h : Heap) (n : Name) (cell : Cell) → cell_at h n ≡ Some cell → FoundAt h n cell
 found_at h n cell e =
     let there = found_cell n.turn (slice_get h.cells (n.slot - 1)) cell e in
@@ -387,6 +394,8 @@ abbrev pub HasReader : Access → Heap → Type 0
 HasReader (Leave ptr) h = (n : Name) → ptr.name ≡ Some n → 1 ≤ readers_at h n
 HasReader _ h = Unit {0}
 
+-- a step of a call adds a reader to the cell that it begins to read, takes one from the cell that it leaves, and
+-- changes no other count
 pub touch_counts : (a : Access) (k : ℕ) (found : Ptr) (h : Heap) (did : Touched)
     → HasReader a h → Touches a k found h did
     → Recounts a h did

@@ -106,6 +106,7 @@ reader_counted s p n h there =
     = sum_by-set (λ (seat : WorldSeat). times_read n seat.readings) s.seats p rest (free_seat s.sizes) there in
     omega (arith, set, h.counted n)
 
+-- a number that passes the test for being more than 0 is at least 1
 pub some_of : (k : ℕ) → nat_lt 0 k ≡ true → 1 ≤ k
 some_of k e = grind (arith, nat_tests)
 
@@ -399,6 +400,7 @@ kind_keeps old h linked _ _ _ (EndCalls job jobs n at) =
     kept_by old _ h (job_counts old.heap job.removes) (λ p. refl) (λ x. refl)
 kind_keeps old h linked _ _ _ _ = kept_by old _ h (λ x. refl) (λ p. refl) (λ x. refl)
 
+-- each cell counts as many readers after a step as participants read it, if each did so before
 pub readings_move : (old new : State) (reply : Reply) → KeepsReadings old → AllLinked old → (step : Step)
     → Moves old step reply new → KeepsReadings new
 readings_move old new reply h linked step did =
@@ -419,6 +421,7 @@ runs_keep old new (x ∷ log) h linked (mid, did, run) =
     runs_keep mid new log (step_keeps old mid x.step x.reply h linked did)
     (step_linked old mid x.step x.reply linked did) run
 
+-- in a new world nobody reads a cell, and no cell counts a reader
 pub fresh_readings : (s : State) → IsFresh s → KeepsReadings s
 fresh_readings s fresh = record {
   counted = λ n. none_counted n (slice_get s.heap.cells (n.slot - 1)) refl
@@ -434,5 +437,6 @@ fresh_readings s fresh = record {
     none_counted n (Some cell) at = subst (λ (c : Cell). readers_in (if_has n.turn (Some c)) ≡ 0)
         (sym (fresh.empty_cells (n.slot - 1) cell at)) (none_there n.turn (empty s.heap.start_turn) refl)
 
+-- In every run of a new world, each cell counts as many readers as participants read it.
 pub every_run_counts : (s new : State) (log : List Entry) → IsFresh s → Runs s log new → KeepsReadings new
 every_run_counts s new log fresh run = runs_keep s new log (fresh_readings s fresh) (fresh_linked s fresh) run

@@ -735,6 +735,7 @@ refused_from old new (x ∷ log) before quiet collected h linked (mid, did, run)
     step_shown old mid x.reply before quiet collected h linked x.step did in
     (shown.0, refused_from mid new log _ _ _ shown.1 (step_linked old mid x.step x.reply linked did) run)
 
+-- In every run of a new world, a call that is refused leaves all that it has to leave as it was when it began.
 pub refused_along : (s new : State) (log : List Entry) → IsFresh s → (run : Runs s log new)
     → RefusedAlong (seat_of s) all_quiet none_collected s new log run
 refused_along s new log fresh run =

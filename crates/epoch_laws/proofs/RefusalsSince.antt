@@ -97,6 +97,7 @@ is_plain (Flush g) = false
 is_plain Release = false
 is_plain _ = true
 
+-- of a call that is never told that the bags are full nothing has to hold since it began
 pub plain_since : (b : WorldSeat) (quiet collected : Type 0) (a : WorldSeat) (s : Stage) (c : Call)
     → is_plain c ≡ true → SinceAt b quiet collected a c s
 plain_since b quiet collected a s (Defer g) plain = absurd (cc (plain))
@@ -125,6 +126,7 @@ flush_more kept C D full (Calling x k) more at = at
 flush_more kept C D full End more at = (more at.0, at.1)
 flush_more kept C D full _ more at = absurd at
 
+-- what holds since a call began holds too where less is claimed of its being quiet, and of its having collected
 pub since_more : (b : WorldSeat) (P Q C D : Type 0) (a : WorldSeat) → (P → Q) → (C → D) → Since b P C a → Since b Q D a
 since_more b P Q C D a more got at = by_progress a.progress at
   where
@@ -158,6 +160,7 @@ place_since quiet collected seat (Place v) true idle q =
 place_since quiet collected seat _ true idle q = tt
 place_since quiet collected seat a false idle q = tt
 
+-- a call that begins at an idle seat has changed nothing yet of what it leaves if it is refused
 pub begun_since : (quiet collected : Type 0) (seat : WorldSeat) (c : Call) → seat.progress ≡ Idle → quiet
     → Since seat quiet collected (begun_seat c seat)
 begun_since quiet collected seat (Defer (Some g)) idle q = deferral_since quiet seat q
@@ -177,11 +180,13 @@ begun_since quiet collected seat _ idle q = tt
 
 -- HOW A RELEASE GOES ON
 
+-- a release that kept its bag through its collection has it at the stage after
 pub release_collected : (kept off : Type 0) (full : Bool) (held : List Deferral) → kept
     → ReleaseAt kept off full (after_collect ReleaseAction held)
 release_collected kept off full [] k = λ is. k
 release_collected kept off full (job ∷ jobs) k = k
 
+-- a release whose put was full has kept its bag at its end, and is unpinned then
 pub release_unpinned : (kept off : Type 0) (full : Bool) → (full ≡ true → kept) → off
     → ReleaseAt kept off full (after_unpin ReleaseAction full)
 release_unpinned kept off true k o = (k, o)

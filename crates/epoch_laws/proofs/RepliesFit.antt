@@ -212,6 +212,7 @@ module _ (t : Told) (seat : WorldSeat) (h : Agrees t seat) (c : Call) (tickets :
       faulty false t.call (waits c t.paused) (h.away (free_is seat.word free)).registered refl refl told
   at_word false taken e = at_progress (is_idle seat.progress) refl (h.here (taken_is seat.word taken)) e
 
+  -- the fault with which a Begin is refused fits what is told of its participant
   pub refused_fits : refusal c seat tickets heap ≡ Some fault → Goal
   refused_fits e = at_word (is_free seat.word) refl e
 
@@ -356,6 +357,7 @@ module _ (old new : State) (before : List Entry) (reply : Reply) (h : AllAgree o
   ends_on (Emptying [] n) e (inl did) = end_go_fits _ (Emptying [] n) did.3 e tt
   ends_on (Emptying [] n) e (inr did) = end_go_fits _ (Emptying [] n) did.1 e tt
 
+  -- the reply to each step fits what the entries before it tell
   pub step_fits : (step : Step) → Moves old step reply new → Fits before step reply
   step_fits Register (inl did) =
       register_fits (Registered did.0) Open did.5 did.1 (λ k below. (h k).here (did.4 k below))
@@ -394,6 +396,7 @@ reached s new (x ∷ log) (suc k) entry at (mid, took, run) =
     let later : IsReached mid log k entry = reached mid new log k entry at run in
     record { old = later.old; mid = later.mid; run = (mid, took, later.run); took = later.took }
 
+-- in every run of a new world each reply fits what the entries before it tell
 pub replies_fit : (s new : State) (log : List Entry) → IsFresh s → Runs s log new → EachFits log
 replies_fit s new log fresh run k entry at =
     let here : IsReached s log k entry = reached s new log k entry at run in

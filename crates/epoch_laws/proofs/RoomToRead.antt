@@ -123,6 +123,7 @@ all_once (n ∷ readings) once = (
     itself : one n n ≡ 1
     itself = ap {B = ℕ} (λ (c : Bool). if c then 1 else 0) (name_self n)
 
+-- a participant within the table that reads one more cell next reads fewer than there are
 pub room_to_read : (s : State) (p : ℕ) (n : Name) → KeepsReadings s → p < length s.seats → ReadsNext s p n
     → length (seat_of s p).readings < length s.heap.cells
 room_to_read s p n h there next = no_more s.heap (n ∷ (seat_of s p).readings) (
@@ -147,6 +148,7 @@ room_to_read s p n h there next = no_more s.heap (n ∷ (seat_of s p).readings) 
         (sym (reads_counted n (seat_of s p).readings)
         ∙ subst (λ (name : Option Name). reads name (seat_of s p).readings ≡ false) next.name fits)
 
+-- whoever reads one more cell next, at whatever position, reads fewer than there are
 pub has_cells_to_read : (s : State) → KeepsReadings s → HasCellsToRead s
 has_cells_to_read s h p n next = elim (split (length s.seats) p) [
   | inl past ↦ absurd (cc (next.progress, ap (λ (seat : WorldSeat). seat.progress) (seat_past s p past)))

@@ -25,6 +25,7 @@ same_epoch e n h = same (unless_both _ _ h (ap (λ (r : ℕ). r == 1) (mul-add-m
     same : (2 * n + 1 == 2 * e + 1) ≡ true → n ≡ e
     same equal = grind (arith, nat_tests)
 
+-- no position past the table is pinned
 pub past_seats : (s : State) (j : ℕ) → length s.seats ≤ j → is_pinned (position_word s j) ≡ false
 past_seats s j le = ap (λ (seat : WorldSeat). is_pinned seat.word) (seat_past s j le)
 

@@ -75,6 +75,7 @@ pub data SeatChange (old : State) (step : Step) (p : ℕ) : WorldSeat → Type 0
   Replies : (r : Reply) → IsGoOf old step p → (seat_of old p).progress ≡ Ends r
       → SeatChange old step p (record (seat_of old p) { progress = Idle })
 
+-- the step writes one seat within the table, in one of these ways, and no other seat
 pub record WritesSeat (old new : State) (step : Step) : Type 0 where
   pub p : ℕ
   pub after : WorldSeat
@@ -152,6 +153,7 @@ kind_goes old _ _ _ (LastReply p reply taken now) =
     writes old _ p _ (seat_there old p taken) refl refl (Replies reply (refl, taken) now)
 kind_goes old _ _ _ _ = record { sizes = refl; seats = inl refl }
 
+-- each step leaves the sizes and all seats as they were, or all seats but one, which it writes in one of these ways
 pub seats_go : (old new : State) (step : Step) (reply : Reply) → Moves old step reply new → SeatsGo old new step
 seats_go old new step reply did = kind_goes old new step reply (step_kind old new step reply did)
 

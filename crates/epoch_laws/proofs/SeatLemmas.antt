@@ -12,9 +12,11 @@ use Rattle.epoch_laws.specs.Run.{WorldSeat, State, seat_of, position_word, with_
 use Rattle.epoch_laws.specs.Run.{waits, call_refusal, refusal}
 use Rattle.epoch_laws.specs.Heap.{Heap}
 
+-- at a position within the table, the seat that was written there is found
 pub seat_written : (s : State) (p : ℕ) (seat : WorldSeat) → p < length s.seats → seat_of (with_seat s p seat) p ≡ seat
 seat_written s p seat lt = get_or-set_same s.seats p seat (free_seat s.sizes) lt
 
+-- a write at one position leaves the seats at all others
 pub seat_other : (s : State) (p q : ℕ) (seat : WorldSeat) → q ≢ p → seat_of (with_seat s p seat) q ≡ seat_of s q
 seat_other s p q seat ne = get_or-set_other s.seats p q seat (free_seat s.sizes) ne
 
@@ -54,6 +56,7 @@ waits_or_own c seat tickets heap = if waits c seat.paused then Some Busy else ca
 abbrev idle_or_busy : Call → WorldSeat → ℕ → Heap → Option Fault
 idle_or_busy c seat tickets heap = if is_idle seat.progress then waits_or_own c seat tickets heap else Some Busy
 
+-- a call that isn't refused has no fault, and its participant is registered, idle, and not paused unless it resumes
 pub begin_given : (c : Call) (seat : WorldSeat) (tickets : ℕ) (heap : Heap) → refusal c seat tickets heap ≡ None
     → IsAccepted c seat tickets heap
 begin_given c seat tickets heap e = at_word (is_free seat.word) refl e

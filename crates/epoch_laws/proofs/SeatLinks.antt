@@ -5,6 +5,7 @@ use Rattle.epoch_laws.specs.declared.step.Progress.{Progress}
 use Rattle.epoch_laws.specs.Run.{WorldSeat, free_seat}
 pub use Rattle.epoch_laws.specs.Kept.{action_of, rests, BeganUnder, IsDriven, IsInStep, IsLinked, AllLinked}
 
+-- a free position is linked: its machine rests, and no guard is counted
 pub free_linked : (sizes : Sizes) → IsLinked sizes (free_seat sizes)
 free_linked sizes = record { sized = refl; counted = refl; follows = refl }
 

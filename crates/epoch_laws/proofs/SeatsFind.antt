@@ -34,6 +34,7 @@ FoundIn found count full _ = NoneFound found
 abbrev pub FullByPut : Machine Deferral → Type 0
 FullByPut m = puts_bag m.action ≡ false → m.full ≡ false
 
+-- what is known of the places that a put has found: by the seat's stage, by its call, and by its action
 pub record PutFinds (found : ℕ → Type 0) (count seen : ℕ) (seat : WorldSeat) : Type 0 where
   pub by_stage : FoundAt found count seen seat.machine.action seat.machine.full seat.machine.stage
   pub by_progress : FoundIn found count seat.machine.full seat.progress
@@ -45,10 +46,12 @@ pub record SameFound (was found : ℕ → Type 0) : Type 0 where
   pub more : (k : ℕ) → was k → found k
   pub back : (k : ℕ) → found k → was k
 
+-- where nothing is added, the same places are found
 pub as_before : (found : ℕ → Type 0) → SameFound found found
 as_before found = record { more = λ k at. at; back = λ k at. at }
 
 module _ (was found : ℕ → Type 0) (same : SameFound was found) where
+  -- where the same places are found, and none was, none is
   pub none_still : NoneFound was → NoneFound found
   none_still none k at = none k (same.back k at)
 
@@ -90,6 +93,7 @@ module _ (was found : ℕ → Type 0) (same : SameFound was found) where
   in_still count full (Accesses a k last) at = none_still at
   in_still count full (Ends r) at = none_still at
 
+  -- what is known of the places that a put has found stays known where the same ones are found
   pub finds_still : (count seen : ℕ) (seat : WorldSeat) → PutFinds was count seen seat → PutFinds found count seen seat
   finds_still count seen seat h = record {
     by_stage = at_still count seen seat.machine.action seat.machine.full seat.machine.stage h.by_stage;
@@ -124,6 +128,7 @@ module _ (found : ℕ → Type 0) (count seen : ℕ) where
   access_finds a true seat rests by_action none = rest_finds _ rests none by_action
   access_finds a false seat rests by_action none = rest_finds _ rests none by_action
 
+  -- what is known of a put's places holds when a call begins at a seat at rest, with no place found yet
   pub begun_finds : (c : Call) (seat : WorldSeat) → seat.machine.stage ≡ Resting
       → FullByPut seat.machine → NoneFound found → PutFinds found count seen (begun_seat c seat)
   begun_finds Pin seat rests by_action none = driven_finds PinAction Pin seat none
@@ -141,6 +146,7 @@ module _ (found : ℕ → Type 0) (count seen : ℕ) where
   begun_finds (AccessCall a) seat rests by_action none = access_finds a (has_steps a) seat rests by_action none
   begun_finds _ seat rests by_action none = rest_finds _ rests none by_action
 
+  -- what is known of a put's places holds when a call has just ended
   pub ended_finds : (c : Call) (seat : WorldSeat) → FullByPut seat.machine
       → PutFinds found count seen (ended_seat c seat)
   ended_finds Pin seat by_action = rest_finds _ refl tt by_action

@@ -104,6 +104,7 @@ pub record Passes (v w : View) : Type 0 where
   pub when : (t : ℕ) → t < v.tickets → w.when t ≡ v.when t
   pub pinned : (j : ℕ) → WasPinned v w j
 
+-- a step that leaves the view as it was passes
 pub passes_same : (v : View) → Passes v v
 passes_same v = record {
   epoch = omega arith;

@@ -270,6 +270,7 @@ zeroth_looks = looks 0 1 (zeroth_pinning 1 (Pinned 0) (Take 1 0) 1) (zeroth_pinn
     (none_in_none 1) refl refl
     (λ aside new told did. elim did [ inl e ↦ absurd (cc (e.0)) | inr takes ↦ takes.1 ])
 
+-- the first pin of 0 advances the epoch to 1, and leaves 0 pinned in epoch 0
 pub zeroth_pins : Leads 0 (zeroth_pinning 0 Unpinned LoadPin 0) (To zeroth_pinned)
 unfolding lowest lowest_from
 zeroth_pins =
@@ -283,6 +284,7 @@ zeroth_pins =
     (loops 0 (zeroth_pinning 1 (Pinned 0) (Take 1 0) 1) (zeroth_pinning 1 (Pinned 0) End 1) (To zeroth_pinned)
     zeroth_looks (end 0 zeroth_pinned (Done (Guard 0)) (λ aside. refl) refl) (λ old mid new rs did e. e)))))))))
 
+-- the unpin of 0 leaves both unpinned, while the epoch is 1
 pub zeroth_unpins : Leads 0 (zeroth_unpinning (Pinned 0) StoreUnpinned)
     (Exactly (UnpinnedReply 0 ∷ Done UnitAnswer ∷ []) zeroth_unpinned)
 unfolding lowest lowest_from
@@ -295,6 +297,7 @@ first_looks = looks 1 2 (first_pinning 2 (Pinned 1) (Take 2 0) 1 1) (first_pinni
     (none_in_none 2) refl refl
     (λ aside new told did. elim did [ inl e ↦ absurd (cc (e.0)) | inr takes ↦ takes.1 ])
 
+-- the first pin of 1 advances the epoch to 2, and leaves 1 pinned in epoch 1
 pub first_pins : Leads 1 (first_pinning 1 Unpinned LoadPin 0 0) (To first_pinned)
 unfolding lowest lowest_from
 first_pins =
@@ -308,6 +311,7 @@ first_pins =
     (loops 1 (first_pinning 2 (Pinned 1) (Take 2 0) 1 1) (first_pinning 2 (Pinned 1) End 1 1) (To first_pinned)
     first_looks (end 1 first_pinned (Done (Guard 0)) (λ aside. refl) refl) (λ old mid new rs did e. e)))))))))
 
+-- the unpin of 1 leaves both unpinned, while the epoch is 2
 pub first_unpins : Leads 1 (first_unpinning (Pinned 1) StoreUnpinned)
     (Exactly (UnpinnedReply 1 ∷ Done UnitAnswer ∷ []) both_unpinned)
 unfolding lowest lowest_from
@@ -325,6 +329,7 @@ zeroth_pins_again =
     (go_so 0 (zeroth_pinning_again (Pinned 2) End 2 2) Stepped (λ aside. refl) refl
     (end_so 0 zeroth_pinned_again (Done (Guard 0)) (λ aside. refl) refl))))
 
+-- the second pin of 1 leaves both pinned in epoch 2
 pub first_pins_again : Leads 1 (first_pinning_again Unpinned LoadPin 1 1)
     (Exactly (Stepped ∷ PinnedReply 1 ∷ Stepped ∷ Done (Guard 0) ∷ []) both_pinned)
 unfolding lowest lowest_from
@@ -334,6 +339,7 @@ first_pins_again =
     (go_so 1 (first_pinning_again (Pinned 2) End 2 2) Stepped (λ aside. refl) refl
     (end_so 1 both_pinned (Done (Guard 0)) (λ aside. refl) refl))))
 
+-- the deferral of 1 gets ticket 0, and its job goes into the held bag
 pub first_defers : Leads 1 (deferring 0 Keep []) (Exactly (Deferred 0 ∷ Done UnitAnswer ∷ []) job_deferred)
 unfolding lowest lowest_from
 first_defers =
@@ -385,6 +391,7 @@ abbrev pub AllStay : List Reply → Type 0
 AllStay [] = Unit {0}
 AllStay (r ∷ rs) = (¬ (IsWithdrawal r 0)) × AllStay rs
 
+-- the reply that a step was made doesn't withdraw what 0 publishes
 pub stepped_stays : ¬ (IsWithdrawal Stepped 0)
 stepped_stays (inl e) = cc (e)
 stepped_stays (inr e) = cc (e)
@@ -549,6 +556,7 @@ puts old new (x ∷ y ∷ rs) e last (mid, did, run) =
       ]
     ]))
 
+-- the flush of 1 is told that the store is full, or ends with a collection for epoch 3 that leaves its bag in the store
 pub first_flushes : Leads 1 (flushing 2 [] LoadSeal false (job ∷ [])) Flushed
 first_flushes =
     goes 1 (flushing 2 [] LoadSeal false (job ∷ [])) (flushing 2 [] (Put 2) false (job ∷ [])) Stepped

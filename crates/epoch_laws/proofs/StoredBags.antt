@@ -9,6 +9,7 @@ abbrev pub SealedBy : ℕ → List Bag → Type 0
 SealedBy bound [] = Unit {0}
 SealedBy bound (bag ∷ bags) = (bag.seal ≤ bound) × SealedBy bound bags
 
+-- where bags are sealed no later than the epoch, and the epoch is within a bound, so are their seals
 pub sealed_by : (when : ℕ → ℕ) (tickets epoch bound : ℕ) (bags : List Bag)
     → epoch ≤ bound → SealedBehind when tickets epoch bags → SealedBy bound bags
 sealed_by when tickets epoch bound [] le h = tt
@@ -44,6 +45,7 @@ sealed_more bound old new bag at h le =
     subst (SealedBy bound) (sym at.with)
     (sealed_between bound at.front at.back bag (subst (SealedBy bound) at.without h) le)
 
+-- a bag that is taken out leaves one less
 pub one_less : (old new : List Bag) (bag : Bag) → IsInserted bag new old → length old ≡ length new + 1
 one_less old new bag at =
     omega (
@@ -54,6 +56,7 @@ one_less old new bag at =
       length-append at.front at.back,
     )
 
+-- where the number of bags is 0 there are none
 pub none_left : (bags : List Bag) → length bags ≤ 0 → bags ≡ []
 none_left [] le = refl
 none_left (x ∷ bags) le = absurd (omega arith)

@@ -155,6 +155,7 @@ moves_among at old new step told e did =
     subst (λ (s : State). Moves s step told (placed new (aside_of old)))
     (ap (λ (s : State). among s (aside_of old)) e) did.0
 
+-- a Go of p that surely comes to this has that reply, and leads to that state, the places and the cells aside
 pub surely_goes : (at after old new : State) (p : ℕ) (r told : Reply)
     → Surely at p r after → core old ≡ at → TakesStep old (Go p) told new → (told ≡ r) × (core new ≡ core after)
 surely_goes at after old new p r told sure_so e did =

@@ -10,10 +10,12 @@ use Rattle.epoch_laws.specs.Run.{Bag, WorldSeat, State, seat_of, free_seat}
 use Rattle.epoch_laws.specs.Tickets.{times, times_at_seats, times_queued, calls_of, deferrals_of, times_called}
 use Rattle.epoch_laws.specs.Tickets.{times_deferred}
 
+-- one more entry adds the calls of the ticket that its reply tells
 pub called_push : (t : ℕ) (log : List Entry) (x : Entry)
     → times_called t (log ++ x ∷ []) ≡ times_called t log + calls_of t x.reply
 called_push t log x = sum_by-append _ log (x ∷ []) ∙ omega arith
 
+-- one more entry adds the deferrals of the ticket that its reply tells
 pub deferred_push : (t : ℕ) (log : List Entry) (x : Entry)
     → times_deferred t (log ++ x ∷ []) ≡ times_deferred t log + deferrals_of t x.reply
 deferred_push t log x = sum_by-append _ log (x ∷ []) ∙ omega arith
@@ -22,6 +24,7 @@ deferred_push t log x = sum_by-append _ log (x ∷ []) ∙ omega arith
 abbrev pub times_at : ℕ → WorldSeat → ℕ
 times_at t seat = times t seat.machine.held + times t seat.machine.hand
 
+-- where a participant's seat is written, its jobs count at all seats in place of those that it had
 pub seats_set : (t : ℕ) (s : State) (p : ℕ) (seat : WorldSeat)
     → p < length s.seats
     → times_at_seats t (slice_set s.seats p seat) + times_at t (seat_of s p)
@@ -40,14 +43,17 @@ queued_put t old new bag at =
     let after : times_queued t new ≡ times_queued t (at.front ++ bag ∷ at.back) = ap (times_queued t) at.with in
     omega (arith, sum_by-append of_bag at.front (bag ∷ at.back), sum_by-append of_bag at.front at.back)
 
+-- a job put in front of others counts once if it has the ticket
 pub times_cons : (t : ℕ) (job : Deferral) (jobs : List Deferral)
     → times t (job ∷ jobs) ≡ (if job.ticket == t then 1 else 0) + times t jobs
 times_cons t job jobs = sum_by-cons (λ (j : Deferral). if j.ticket == t then 1 else 0) job jobs
 
+-- a job put behind others counts once if it has the ticket
 pub times_push : (t : ℕ) (jobs : List Deferral) (job : Deferral)
     → times t (jobs ++ job ∷ []) ≡ times t jobs + (if job.ticket == t then 1 else 0)
 times_push t jobs job = sum_by-append (λ (j : Deferral). if j.ticket == t then 1 else 0) jobs (job ∷ []) ∙ omega arith
 
+-- what is zero at each participant is zero over all of them
 pub sum_zero : (f : WorldSeat → ℕ) (seats : List WorldSeat) (default : WorldSeat)
     → ((p : ℕ) → f (get_or seats p default) ≡ 0)
     → sum_by f seats ≡ 0
@@ -68,5 +74,6 @@ pub ticket_given : (tickets t : ℕ)
     → (if nat_lt t tickets then 1 else 0) + (if tickets == t then 1 else 0) ≡ (if nat_lt t (tickets + 1) then 1 else 0)
 ticket_given tickets t = grind (arith, nat_tests)
 
+-- an empty log defers no ticket, where none was given
 pub none_deferred : (t tickets : ℕ) → tickets ≡ 0 → times_deferred t [] ≡ (if nat_lt t tickets then 1 else 0)
 none_deferred t tickets none = grind (arith, nat_tests)

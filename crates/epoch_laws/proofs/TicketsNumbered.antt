@@ -72,6 +72,7 @@ numbers_along s old new log (x ∷ entries) fresh before h (mid, took, run) =
     subst (Numbers new) (append_assoc log (x ∷ []) entries)
     (numbers_along s mid new (log ++ x ∷ []) entries fresh upto next run)
 
+-- in every run from a new world, the ticket of an accepted job is the number of those accepted before it
 pub numbers_tickets : (s new : State) (log : List Entry) → IsFresh s → Runs s log new → NumbersTickets log
 numbers_tickets s new log fresh run = (numbers_along s s new [] log fresh refl none run).numbered
   where

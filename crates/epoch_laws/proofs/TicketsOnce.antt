@@ -94,9 +94,11 @@ fresh_tallies s fresh = record {
         let hand = ap (λ (seat : WorldSeat). seat.machine.hand) (fresh.free p) in
         (held, hand)
 
+-- every run of a new world keeps the tally of jobs
 pub run_tallies : (s new : State) (log : List Entry) → IsFresh s → Runs s log new → Tallies new log
 run_tallies s new log fresh run = runs_tally s new [] log (fresh_tallies s fresh) run
 
+-- in every run of a new world each accepted job is in exactly one bag, or was called exactly once
 pub holds_each_once : (s new : State) (log : List Entry) → IsFresh s → Runs s log new → HoldsEachTicketOnce log new
 holds_each_once s new log fresh run =
     let h = run_tallies s new log fresh run in

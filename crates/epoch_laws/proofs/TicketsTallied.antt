@@ -37,10 +37,12 @@ tells (Deferred t) = true
 tells (Called t how) = true
 tells _ = false
 
+-- a reply that tells of no ticket calls none
 pub untold_calls : (t : ℕ) (told : Reply) → tells told ≡ false → calls_of t told ≡ 0
 untold_calls t (Called u how) quiet = absurd (cc)
 untold_calls t _ quiet = refl
 
+-- a reply that tells of no ticket defers none
 pub untold_deferrals : (t : ℕ) (told : Reply) → tells told ≡ false → deferrals_of t told ≡ 0
 untold_deferrals t (Deferred u) quiet = absurd (cc)
 untold_deferrals t _ quiet = refl
@@ -81,6 +83,7 @@ abbrev pub GivesTicket : ℕ → Reply → ℕ → Type 0
 GivesTicket old told new =
     (t : ℕ) → (if nat_lt t old then 1 else 0) + deferrals_of t told ≡ (if nat_lt t new then 1 else 0)
 
+-- where a reply tells of no ticket, none is given
 pub none_given : (tickets : ℕ) (told : Reply) → tells told ≡ false → GivesTicket tickets told tickets
 none_given tickets told quiet t = omega (arith, untold_deferrals t told quiet)
 

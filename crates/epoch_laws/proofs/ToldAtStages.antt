@@ -90,6 +90,7 @@ ToldAt t c full s = HasToldAt t c full s × (t.pinned ≡ pinned_at c t.guards s
 still_some : (b : Bool) (g : ℕ) (guards : List ℕ) → b ≡ true → is_out g guards ≡ true → b ≡ has_any guards
 still_some b g guards on out = on ∙ sym (ap not (some_out g guards out))
 
+-- when a call's collection is over, what it has told is right for the stage that follows
 pub told_collected : (t : Told) (c : Call) (full : Bool) (held : List Deferral) → BeganUnder c t.guards
     → Collecting t c → t.pinned ≡ true → ToldAt t c full (after_collect (action_of c) held)
 told_collected t Pin full held under h on = (λ none. h, on)
@@ -110,6 +111,7 @@ pinned_collects t (Resume None) under h = absurd under
 pinned_collects t Release under h = (h.1, h.2)
 pinned_collects t _ under h = absurd h.0
 
+-- when a call's put is over, what it has told is right for the stage that follows
 pub told_put : (t : Told) (c : Call) (full : Bool) → BeganUnder c t.guards
     → Putting t c → t.pinned ≡ true → ToldAt t c full (after_put (action_of c) full)
 told_put t (Defer (Some g)) false under h on = ((tt, h, refl), on)
@@ -122,6 +124,7 @@ told_put t (Flush g) full under h on = (tt, on)
 told_put t Release full under h on = (h, on)
 told_put t _ full under h on = absurd h
 
+-- with its unpin told, what a call has told is right for the stage that follows
 pub told_unpinned : (t : Told) (p : ℕ) (c : Call) (full : Bool) → BeganUnder c t.guards
     → MayUnpin (Some c) t.guards t.did_pin → ToldAt (after_go t (Unpinned p)) c full (after_unpin (action_of c) full)
 told_unpinned t p (Unpin (Some g)) full under h = (λ one. refl, sym (ap not (none_without g t.guards h)))
@@ -130,11 +133,13 @@ told_unpinned t p Release false under h = ((refl, h, refl), refl)
 told_unpinned t p Release true under h = ((refl, h, refl), sym (ap not (none_left t.guards under)))
 told_unpinned t p _ full under h = absurd h
 
+-- when a repin is over, what it has told is right for its end
 pub told_repinned : (t : Told) (c : Call) (full : Bool) → BeganUnder c t.guards
     → MayRepin (Some c) t.guards → t.pinned ≡ true → ToldAt t c full End
 told_repinned t (Repin (Some g)) full under h on = (tt, still_some t.pinned g t.guards on under)
 told_repinned t _ full under h on = absurd h
 
+-- with its ticket told, what a deferral has told is right for its end
 pub told_kept : (t : Told) (c : Call) (full : Bool) (ticket : ℕ) → BeganUnder c t.guards
     → MayDefer (Some c) → full ≡ false → t.pinned ≡ true → ToldAt (after_go t (Deferred ticket)) c full End
 told_kept t (Defer (Some g)) full ticket under h none on = (sym (ap not none), still_some t.pinned g t.guards on under)
@@ -143,6 +148,7 @@ told_kept t (DeferDestroy (Some g) ptr) full ticket under h none on =
 told_kept t (DeferDestroy None ptr) full ticket under h none on = absurd under
 told_kept t _ full ticket under h none on = absurd h
 
+-- a call that collects may call jobs
 pub may_call : (t : Told) (c : Call) → BeganUnder c t.guards → Collecting t c → MayCall (Some c)
 may_call t Pin under h = tt
 may_call t (Resume (Some g)) under h = tt

@@ -12,6 +12,7 @@ told_from_more p t (x ∷ log) zero default within = refl
 told_from_more p t (x ∷ log) (suc i) default within =
     told_from_more p (told_after p t x.step x.reply) log i default (omega arith)
 
+-- what a log tells of a participant after one more entry follows from that entry and what was told before it
 pub told_more : (p : ℕ) (log : List Entry) (i : ℕ) (default : Entry) → i < length log
     → told_of p (take (i + 1) log)
     ≡ told_after p (told_of p (take i log)) (get_or log i default).step (get_or log i default).reply

@@ -45,6 +45,7 @@ IsGiven h n = GivenAt n.turn (slice_get h.cells (n.slot - 1))
 abbrev pub StaysGiven : Heap → Heap → Type 0
 StaysGiven old new = (n : Name) → IsGiven old n → IsGiven new n
 
+-- where the heap stays the same, what was given stays given
 pub given_same : (old new : Heap) → new ≡ old → StaysGiven old new
 given_same old new e n given = subst (λ h. IsGiven h n) (sym e) given
 
@@ -71,6 +72,7 @@ pub some_value : (v : Option Content) (turn : ℕ) → is_some v ≡ true → ne
 some_value (Some content) turn e = refl
 some_value None turn e = absurd (cc)
 
+-- where a name has its cell, the first turn of its slot that wasn't given is the one after the name's
 pub stands_filled : (h : Heap) (n : Name) (cell : Cell) → cell_at h n ≡ Some cell → next_turn cell ≡ n.turn + 1
 stands_filled h n cell e =
     let there = found_cell n.turn (slice_get h.cells (n.slot - 1)) cell e in
@@ -108,6 +110,7 @@ given_without h n (Some cell) e = at_test (cell.readers == 0)
     at_test true = given_emptied h n cell e
     at_test false = given_same h h refl
 
+-- at the call of a job, what was given stays given
 pub given_job : (h : Heap) (removes : Option Name) → StaysGiven h (heap_after_job h removes)
 given_job h None = given_same h h refl
 given_job h (Some n) = given_without h n (cell_at h n) refl
@@ -190,6 +193,7 @@ gives_at h n cell after there none some = record {
       (let lt : n.turn < next_turn after = omega (arith, some) in lt);
 }
 
+-- a Place that answers a name gives a new one: it wasn't given before, and is given then
 pub place_gives : (v k : ℕ) (found : Ptr) (h : Heap) (cell : Option Cell) → slice_get h.cells k ≡ cell → (did : Touched)
     → Places v k found h cell did → (n : Name) → progress_after (Place v) k did.told ≡ Ends (Done (NameAnswer n))
     → GivesNew h did.heap n

@@ -36,6 +36,7 @@ pub record Holds (s : State) (log : List Entry) : Type 0 where
   pub ending : EndHolds when s.tickets s.ending
   pub logged : LogHolds (view_of s since when) log  -- what was told agrees with the view, and keeps grace
 
+-- what holds of a state and its log holds of a state that is the same
 pub holds_along : (new last : State) (log : List Entry) → new ≡ last → Holds last log → Holds new log
 holds_along new last log e h = subst (λ (s : State). Holds s log) (sym e) h
 
@@ -55,9 +56,11 @@ heap_aside s log heap h = record {
 abbrev pub changed : (ℕ → ℕ) → ℕ → ℕ → ℕ → ℕ
 changed f p e q = cond (eqb q p) e (f q)
 
+-- at the place that was changed, it has the new value
 pub changed_same : (f : ℕ → ℕ) (p e : ℕ) → changed f p e p ≡ e
 changed_same f p e = grind (arith, nat_tests)
 
+-- at each other place, it has the value that it had
 pub changed_other : (f : ℕ → ℕ) (p e q : ℕ) → q ≢ p → changed f p e q ≡ f q
 changed_other f p e q ne = grind (arith, nat_tests)
 
@@ -99,6 +102,7 @@ end_more when when' n n' (Emptying hand k) more same h =
     (h.0, deferred_more when when' n n' h.0 h.0 hand more (omega arith) same h.1)
 end_more when when' n n' _ more same h = tt
 
+-- where a step of one participant shows all that, what held before it holds after it, with its entry in the log
 pub acted : (old new : State) (log : List Entry) (x : Entry) (h : Holds old log) (since' when' : ℕ → ℕ) (p : ℕ)
     (after : WorldSeat) → Acts old new h.since h.when since' when' p after x.reply → Holds new (log ++ x ∷ [])
 acted old new log x h since' when' p after a = record {

@@ -149,7 +149,7 @@ LeavesFrom past s [] new run = Unit {0}
 LeavesFrom past s (entry ∷ log) new (mid, did, run) =
     LeavesRightly past s entry mid × LeavesFrom (past_after past s entry mid) mid log new run
 
--- Each cell leaves at most once, and out of reach.
+-- Each cell leaves at most once, and out of reach, and its fields stay as they are from then on.
 abbrev pub LeavesOnce : (s : State) (log : List Entry) (new : State) → Runs s log new → Type 0
 LeavesOnce s log new run = LeavesFrom no_past s log new run
 

@@ -10,6 +10,7 @@ lanes_further lanes (moment ∷ moments) zero d within = refl
 lanes_further lanes (moment ∷ moments) (suc i) d within =
     lanes_further (lanes_with lanes moment.reply) moments i d (omega arith)
 
+-- the lanes told up to the next moment are those told before it, with those that its reply needs
 pub lanes_more : (moments : List Moment) (i : ℕ) (d : Moment) → i < length moments
     → lanes_told (take (i + 1) moments) ≡ lanes_with (lanes_told (take i moments)) (get_or moments i d).reply
 lanes_more moments i d within = rw add-one (lanes_further 0 moments i d within)

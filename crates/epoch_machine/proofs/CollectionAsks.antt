@@ -32,9 +32,11 @@ pub known : {J : Type 0} (m : Machine J) (test answer : Bool) (s t : Stage) (par
 known m test answer s t part is logs =
     subst (λ (b : Bool). LogsAre (with_stage m (if b then s else t)) part) (sym is) logs
 
+-- two numbers that are the same pass the machine's test for that
 pub same_number : (a b : ℕ) → a ≡ b → (a == b) ≡ true
 same_number a b is = grind (arith, nat_tests)
 
+-- two numbers that differ fail the machine's test for being the same
 pub other_number : (a b : ℕ) → a ≢ b → (a == b) ≡ false
 other_number a b is = grind (arith, nat_tests)
 

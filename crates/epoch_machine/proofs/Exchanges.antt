@@ -32,6 +32,7 @@ begins {J} m n ask Holds x log asked next run =
     let P : Ask → Type 0 = λ a. Holds (record { ask = a; reply = x.reply }) in
     subst P same (next x.reply (subst (λ (a : Ask). IsReply a m.hand x.reply) (sym same) run.1) run.2)
 
+-- a machine that asks for nothing has an empty log, and asks no more
 pub ends : {J : Type 0} (m : Machine J) → asks m ≡ None → LogsAre m AsksNoMore
 ends m none more [] n is at = (refl, sym at ∙ ap asks_more is ∙ ap is_some none)
 ends m none more (x ∷ log) n run at = absurd (cc (none, run.0))
@@ -46,6 +47,7 @@ epoch_told : {J : Type 0} (m n : Machine J) (behind : ℕ → Part J) (more : Bo
 epoch_told m n behind more log next at (Heard (Epoch e)) fits run = (e, refl, next e more log n run at)
 epoch_told m n behind more log next at _ fits run = absurd fits
 
+-- where the epoch is asked for, each log is its load, and then what follows from the epoch found
 pub loads : {J : Type 0} (m : Machine J) (behind : ℕ → Part J)
     → asks m ≡ Some LoadEpoch
     → ((e : ℕ) → LogsAre (heard m (Epoch e)) (behind e))
@@ -89,6 +91,7 @@ stored {J} m n store behind more log next at reply is run = (
   next more log n (subst (λ (r : Reply J). Asked (told m r) log n) is run) at,
 )
 
+-- where a store is asked for, each log is that store, and then what follows it
 pub stores : {J : Type 0} (m : Machine J) (store : Ask) (behind : Part J)
     → IsStore store
     → asks m ≡ Some store
@@ -109,6 +112,7 @@ job_told : {J : Type 0} (m n : Machine J) (behind : Part J) (more : Bool) (log :
 job_told m n behind more log next at (Heard (Job job)) fits run = (job, refl, next job more log n run at)
 job_told m n behind more log next at _ fits run = absurd fits
 
+-- where a job is asked for, each log is the job kept, and then what follows it
 pub keeps : {J : Type 0} (m : Machine J) (behind : Part J)
     → asks m ≡ Some KeepJob
     → ((job : J) → LogsAre (heard m (Job job)) behind)
@@ -133,6 +137,7 @@ put_told m n seal done full more log again made refused at (PutStepped Full) fit
     inr (inr (refl, refused more log n run at))
 put_told m n seal done full more log again made refused at _ fits run = absurd fits
 
+-- where a put is asked for, each log is its steps, and then what follows from how they end
 pub put_steps : {J : Type 0} (m : Machine J) (seal : ℕ) (done full : Part J)
     → asks m ≡ Some (PutBag seal)
     → LogsAre (put_heard m Done) done

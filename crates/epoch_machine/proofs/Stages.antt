@@ -23,6 +23,7 @@ pub word_unasked : {J : Type 0} (m n : Machine J) (w : ℕ)
 word_unasked m n w is other =
     subst (λ (o : Machine _). o ≡ hears o o.stage (Word w)) is (word_unheard m m.stage w other)
 
+-- a job that is given at a stage that calls none changes nothing
 pub nothing_given : {J : Type 0} (m n : Machine J)
     → m ≡ n → ((x k : ℕ) → m.stage ≡ Calling x k → ⊥) → n ≡ gives n n.stage (rest n.hand)
 nothing_given m n is other =

@@ -12,28 +12,35 @@ use Rattle.epoch_machine.proofs.StagesAfter.{either_way, after_pin_at, past_word
 abbrev pub IsOn : Stage → Type 0
 IsOn s = rests s ≡ false
 
+-- after its collection an action is under way still
 pub collect_on : {J : Type 0} (a : Action) (jobs : List J) → rests (after_collect a jobs) ≡ false
 collect_on Release [] = refl
 collect_on Release (job ∷ jobs) = refl
 collect_on _ jobs = refl
 
+-- after its pin an action is under way still
 pub pin_on : {J : Type 0} (m : Machine J) → rests (after_pin m) ≡ false
 pin_on m = after_pin_at IsOn m refl (collect_on m.action m.held)
 
+-- after its put an action is under way still
 pub put_on : (a : Action) (full : Bool) → rests (after_put a full) ≡ false
 put_on Defer false = refl
 put_on _ full = refl
 
+-- after it has unpinned an action is under way still
 pub unpin_on : (a : Action) (full : Bool) → rests (after_unpin a full) ≡ false
 unpin_on Release false = refl
 unpin_on _ full = refl
 
+-- after a bag was taken, or a job of it called, an action is under way still
 pub job_on : {J : Type 0} (m : Machine J) (x k : ℕ) (jobs : List J) → rests (after_job m x k jobs) ≡ false
 job_on m x k jobs = after_job_at IsOn m x k jobs refl refl (collect_on m.action m.held)
 
+-- after a word that its scan loaded an action is under way still
 pub word_on : (positions e k w : ℕ) → rests (past_word positions e k w) ≡ false
 word_on positions e k w = past_word_at IsOn positions e k w refl refl refl
 
+-- an action that begins is under way
 pub first_on : {J : Type 0} (a : Action) (m : Machine J) → rests (first_stage a m) ≡ false
 first_on Pin m = either_way IsOn (m.guards == 0) LoadPin End refl refl
 first_on Unpin m = either_way IsOn (m.guards == 1) StoreUnpinned End refl refl

@@ -22,6 +22,7 @@ escape_more bytes i within = rw add-one (escape_next bytes i within)
 byte_is_text : (byte : ℕ) → All IsText (escaped_byte byte)
 byte_is_text byte = grind arith
 
+-- no byte of an escaped text opens or ends markup
 pub escape_is_text : (bytes : List ℕ) → All IsText (escape bytes)
 escape_is_text [] = search rules
 escape_is_text (byte ∷ bytes) =

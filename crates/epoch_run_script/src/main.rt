@@ -1,5 +1,5 @@
 //! `epoch-run-script`: reads a script of steps from standard input and prints what each of them tells, as `epoch-run`
-//! does without arguments. It takes no arguments, and stands on worlds alone: no proof about threads has to be made
+//! does without arguments. It takes no arguments, and stands on worlds alone: no proof about handles has to be made
 //! before it runs.
 #![tactic(auto)]
 

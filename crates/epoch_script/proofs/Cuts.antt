@@ -15,21 +15,25 @@ lacks_behind m b bs lacks i within = lacks (suc i) (omega arith)
 lacks_first : (m b : ℕ) (bs : List ℕ) → Lacks m (b ∷ bs) → b ≢ m
 lacks_first m b bs lacks = lacks 0 (omega arith)
 
+-- where the front lacks the byte, the front is what stands before the first one
 pub before_mark : (m : ℕ) (front back : List ℕ) → Lacks m front → before m (front ++ m ∷ back) ≡ front
 before_mark m [] back lacks = grind (arith, nat_tests)
 before_mark m (b ∷ bs) back lacks =
     grind (arith, nat_tests, lacks_first m b bs lacks, before_mark m bs back (lacks_behind m b bs lacks))
 
+-- where the front lacks the byte, the back is what stands after the first one
 pub behind_mark : (m : ℕ) (front back : List ℕ) → Lacks m front → behind m (front ++ m ∷ back) ≡ Some back
 behind_mark m [] back lacks = grind (arith, nat_tests)
 behind_mark m (b ∷ bs) back lacks =
     grind (arith, nat_tests, lacks_first m b bs lacks, behind_mark m bs back (lacks_behind m b bs lacks))
 
+-- where a text lacks the byte, what stands before it is the whole text
 pub before_whole : (m : ℕ) (bs : List ℕ) → Lacks m bs → before m bs ≡ bs
 before_whole m [] lacks = refl
 before_whole m (b ∷ bs) lacks =
     grind (arith, nat_tests, lacks_first m b bs lacks, before_whole m bs (lacks_behind m b bs lacks))
 
+-- where a text lacks the byte, nothing stands after it
 pub behind_none : (m : ℕ) (bs : List ℕ) → Lacks m bs → behind m bs ≡ None
 behind_none m [] lacks = refl
 behind_none m (b ∷ bs) lacks =

@@ -10,6 +10,7 @@ same_turn : (a b : ℕ) (rest : Option (List ℕ)) → Behind rest (SpellsNumber
 same_turn a b (Some rest) one other = same_number a b rest one other
 same_turn a b None one other = absurd one
 
+-- Of a text that spells a slot and a turn, a reading is right that gives their name, or none where they have no name.
 pub name_read : (text : List ℕ) (slot turn : ℕ) (read : Option Name)
     → SpellsTurn slot turn text
     → IfSome read (λ name. (name.slot ≡ slot) × (name.turn ≡ turn) × (turn < 4294967296))

@@ -284,6 +284,7 @@ key_in : (rank value : ℕ) → value < 4294967296 → node_key (rank * 42949672
 unfolding node_key
 key_in rank value small = omega (arith, small)
 
+-- such an entry is told as its key's number compares with the number of the key that is sought
 pub told_by_order : (order : Ordering) (rank sought value : ℕ) → nat_cmp rank sought ≡ order → value < 4294967296
     → code_of sought (rank * 4294967296 + value) ≡ coded order
 told_by_order order rank sought value is small =

@@ -238,6 +238,7 @@ start_suits (Insert b e k) = refl
 start_suits (Remove b key k) = begin_suits (Remove b key k) (ToRemove b key) k refl (λ some. some)
 start_suits (Get b key k) = begin_suits (Get b key k) (ToGet b key) k refl (λ some. some)
 
+-- the phase in which a call begins suits its work
 pub first_work_suits : (work : MapWork) → Suits work (first_of work)
 first_work_suits (Insert b e k) = refl
 first_work_suits (Remove b key k) = refl

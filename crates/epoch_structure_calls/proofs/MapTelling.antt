@@ -17,6 +17,7 @@ insert_needs_moves b e moves (AlreadyThere v) f may none = absurd (omega (arith,
 insert_needs_moves b e moves (AlreadyThereLeaking v) f may none = absurd (omega (arith, may.0, none))
 insert_needs_moves b e moves a f may none = refl
 
+-- with no move a removal fails
 pub remove_needs_moves : (b key moves : ℕ) (a : MapAnswer) (f : Option Fault) → MayAnswer (Remove b key moves) a
     → moves ≡ 0 → IsErr (remove_tells a f)
 remove_needs_moves b key moves (Removed v) f may none = absurd (omega (arith, may.0, none))
@@ -24,6 +25,7 @@ remove_needs_moves b key moves (RemovedLeaking v) f may none = absurd (omega (ar
 remove_needs_moves b key moves NotFound f may none = absurd (omega (arith, may, none))
 remove_needs_moves b key moves a f may none = refl
 
+-- with no move a look-up fails
 pub get_needs_moves : (b key moves : ℕ) (a : MapAnswer) (f : Option Fault) → MayAnswer (Get b key moves) a
     → moves ≡ 0 → IsErr (get_tells a f)
 get_needs_moves b key moves (Found v) f may none = absurd (omega (arith, may.0, none))

@@ -168,6 +168,7 @@ pub to_further : (b : ℕ) (link : Spot) (c : Name) (k rest : ℕ) → k ≡ suc
     → at (ToGet b 1) link (Some c) k ≡ Reading (ToGet b 1) link c rest
 to_further b link c k rest is = ap (λ (m : ℕ). at (ToGet b 1) link (Some c) m) is
 
+-- with no move left, the walk doesn't go on to a node, and answers so
 pub to_none : (b : ℕ) (link : Spot) (c : Name) (k : ℕ) → k ≡ 0
     → at (ToGet b 1) link (Some c) k ≡ Answering MovesOut
 to_none b link c k is = ap (λ (m : ℕ). at (ToGet b 1) link (Some c) m) is

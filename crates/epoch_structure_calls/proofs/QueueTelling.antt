@@ -13,6 +13,7 @@ pub push_needs_tries : (tries value : ℕ) (a : QueueAnswer) (f : Option Fault) 
 push_needs_tries tries value Pushed f may none = absurd (omega (arith, may, none))
 push_needs_tries tries value a f may none = refl
 
+-- with no try a pop fails
 pub pop_needs_tries : (tries : ℕ) (a : QueueAnswer) (f : Option Fault) → MayAnswer (Pop tries) a → tries ≡ 0
     → IsErr (queue_pop_tells a f)
 pop_needs_tries tries (Popped v) f may none = absurd (omega (arith, may, none))

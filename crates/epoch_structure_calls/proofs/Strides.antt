@@ -107,6 +107,7 @@ lower aim Less sought is = subst (λ (k : ℕ). 0 < k) (sym sought) (omega arith
 lower aim Equal sought is = absurd cc
 lower aim Greater sought is = absurd cc
 
+-- a node whose key is lower is known to the program by an entry of a lower key than the one that is sought
 pub lower_key : (aim : Aim) (order : Ordering) (v : ℕ) → v ≡ coded order → key_sought aim ≡ 1 → is_ge order ≡ false
     → node_key v < key_sought aim
 lower_key aim order v same sought is =

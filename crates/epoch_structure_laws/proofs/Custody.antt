@@ -122,6 +122,7 @@ pub record Calm (left : Name → Type 0) (h h' : Heap) : Type 0 where
   pub fewer : Fewer h h'
   pub given : (n : Name) → IsGiven h n → IsGiven h' n
 
+-- a step that leaves the heap the same is calm
 pub calm_same : (left : Name → Type 0) (h h' : Heap) → h' ≡ h → Calm left h h'
 calm_same left h h' e =
     subst (Calm left h) (sym e)
@@ -273,6 +274,7 @@ module _ (S : Program) (T : Structure S) where
             | inr (inr fresh) ↦ fresh (out q n was).1
           ]
 
+      -- what holds of the structure before the step holds after it too
       pub sound_after : Sound past' new plans'
       sound_after = record {
         ghost = acts.ghost';
@@ -312,6 +314,7 @@ module _ (S : Program) (T : Structure S) where
         ];
       }
 
+      -- cells leave rightly at the step
       pub leaves_after : LeavesRightly past old x new
       leaves_after = record {
         deferred_once = λ t n d. (out p n (acts.goes n (defers t n d)).0).0;

@@ -197,6 +197,7 @@ world_fresh = record {
 new : IsNewMap fresh (lone_plans NoPlan)
 new = record { fresh = world_fresh; marks = omega arith; no_plans = no_plans }
 
+-- some run of a new map inserts an entry, misses a lower key, finds the entry, removes it, and then misses it
 pub some_map_run_inserts_and_removes : (world : State) × (plans : AllPlans MapPhase) × (log : MapLog)
     × (world' : State) × (plans' : AllPlans MapPhase) × IsNewMap world plans × MapRuns world plans log world' plans'
     × (map_answers_in log ≡ Inserted ∷ NotFound ∷ Found 4294967303 ∷ Removed 4294967303 ∷ NotFound ∷ [])

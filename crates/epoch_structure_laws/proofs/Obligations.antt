@@ -60,6 +60,7 @@ pub record HandsOver (S : Program) (T : Structure S) (phase next : S.Phase) (n :
   pub known : (past : Past) (h : Heap) (ghost : T.Ghost) → T.Shape past h ghost → T.Stands past h ghost phase
       → (¬ (IsReachable h n)) × T.Stands past h ghost next × ((m : Name) → T.Owns next m → m ≢ n)
 
+-- what a structure shows of each phase of its program: then every run of it lets cells leave rightly
 pub record Obeys (S : Program) (T : Structure S) (Starts : S.Phase → Type 0) : Type 1 where
   -- What a phase owns was given and hasn't left; what is common hasn't left either, and no phase owns it.
   pub sane : Sane S T

@@ -214,6 +214,7 @@ usual = record {
   one_field = refl;
 }
 
+-- Some run of a new queue builds it, pushes 7, pops 7 and finds it empty, each asked for by a ready participant.
 pub some_queue_run_pushes_and_pops : (world : State) × (plans : AllPlans QueuePhase) × (log : QueueLog)
     × (world' : State)
     × (plans' : AllPlans QueuePhase) × IsUsualQueue world plans × (run : QueueRuns world plans log world' plans')

@@ -48,10 +48,12 @@ abbrev pub lone_plans : {P : Type 0} → Plan P → AllPlans P
 lone_plans plan zero = plan
 lone_plans plan (suc q) = NoPlan
 
+-- where the one participant has no plan, nobody has one
 pub no_plans : {P : Type 0} (p : ℕ) → lone_plans {P = P} NoPlan p ≡ NoPlan
 no_plans zero = refl
 no_plans (suc p) = refl
 
+-- where the one participant gets another plan, nobody else's changes
 pub replanned : {P : Type 0} (old new : Plan P) → Replans (lone_plans old) 0 new (lone_plans new)
 replanned old new = (refl, others)
   where
@@ -93,6 +95,7 @@ deferring n stage removed heap =
 pub is_ready : (removed : Option Name) (h : Heap) → IsReadySeat 0 (seat_of (holds removed Idle h []) 0)
 is_ready removed h = record { taken = taken_pinned; out = refl; awake = refl }
 
+-- its bag takes a further job, whether it has deferred a removal or not
 pub has_room : (removed : Option Name) (h : Heap) → SeatHasRoom (seat_of (holds removed Idle h []) 0)
 has_room None h = λ e. absurd (omega (arith, e))
 has_room (Some n) h = λ e. absurd (omega (arith, e))

@@ -12,6 +12,8 @@ use Rattle.epoch_structure_worlds.proofs.AskedReady.{asks_ready}
 flushes : (g : ℕ) (work : QueueWork) → IsFlush (queue_deed_of g (begin_queue_work work false))
 flushes g work = tt
 
+-- in each run of a queue in a world every call is asked for by a participant that is ready, and begins with a flush
+-- or has room in the held bag
 pub queue_asks_ready : (old : QueueState) (log : List QueueEntry) (new : QueueState) (run : GoesByQueue old log new)
     → AllQueueAsksReady old.world (plans_in old.plans) (events_of log) new.world (plans_in new.plans)
     (queue_run old log new run)

@@ -3,6 +3,7 @@ use Rattle.std.proofs.Common.{◌≡◌, ℕ, List, [], ◌∷◌, length, Some,
 use Rattle.epoch_laws.specs.declared.heap.access.Ptr.{Ptr}
 use Rattle.epoch_laws.specs.Heap.{null}
 
+-- two roots that both are null are a list of two null pointers
 pub two_null_roots : (roots : List Ptr)
     → length roots ≡ 2 → ((i : ℕ) (ptr : Ptr) → slice_get roots i ≡ Some ptr → ptr ≡ null) → roots ≡ null ∷ null ∷ []
 two_null_roots [] two nulls = absurd (omega arith)

@@ -209,6 +209,7 @@ kind_counts old h _ _ _ (EndTakes bag queued n at out) = closes old _ h queued (
     (omega (arith, ap jobs_at_end at, queued_more bag queued old.queued out)) refl
 kind_counts old h _ _ _ (EndIsOver n at none) = closes old _ h old.queued Over old.heap (omega arith) refl
 
+-- no step makes the jobs more than the tickets that were given, if they weren't more before it
 pub moves_jobs : (old new : State) (step : Step) (reply : Reply)
     → JobsFew old
     → Moves old step reply new

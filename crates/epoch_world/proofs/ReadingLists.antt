@@ -5,6 +5,7 @@ use Rattle.epoch_cells.specs.declared.cells.name.Name.{Name}
 use Rattle.epoch_laws.specs.Heap.{is_name}
 use Rattle.epoch_laws.specs.Run.{without_reading}
 
+-- where the list has the name at a place, leaving it out from there on takes away that place alone
 pub without_at : (n : Name) (xs : List Name) (i : ℕ) (m : Name)
     → m ≡ slice_index_or xs i m → i < length xs → is_name m n ≡ true
     → take i xs ++ without_reading (Some n) (drop i xs) ≡ remove xs i

@@ -181,6 +181,7 @@ Met = (fresh s put new : State) × (p : ℕ) × (earlier before after others : L
 others : Runs over (second.0 ++ third.0) last
 others = runs_append over emptied last second.0 third.0 second.1 third.1
 
+-- some run of a new world meets the premises of the law of rounds, and its rounds have a job to call
 pub some_run : Met
 some_run = (
   first,

@@ -66,8 +66,9 @@ impl<T: Pointable + Drop> Owned<T> {
         Ok(Owned::from(value))
     }
 
-    /// Puts the value into a box, with tag 0, as [`Owned::new`] does. If the guard's participant keeps the memory of a
-    /// value that was destroyed, the value is put there, and no memory is allocated.
+    /// Puts the value into a box, with tag 0, as [`Owned::new`] does. If the guard has memory of a value that was
+    /// destroyed, the value is put there, and no memory is allocated: its participant gives what it keeps to the first
+    /// guard of a pin.
     ///
     /// `NoMemory`: an allocation was refused, and the value was dropped.
     #[inline(always)]

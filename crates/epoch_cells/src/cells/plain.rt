@@ -289,7 +289,7 @@ impl<V: Drop> PlainCells<V> {
         }
     }
 
-    /// Takes the value of this name out. From then on the slot is free for its next turn.
+    /// Takes the value of this name out. From then on the slot is free for its next turn, if it has one.
     ///
     /// `None`: the name's cell is gone or read.
     pub fn take(&mut self, name: Name) -> Option<V>

@@ -107,7 +107,7 @@ pub enum AccessAnswer {
     Updated(Ptr),
     /// The pointer for which the update's function answered nothing. Nothing was written.
     Stopped(Ptr),
-    /// The pointer that stands there after the update's last try was lost. Nothing was written.
+    /// The pointer that stands there when the update has no try left. Nothing was written.
     RanOut(Ptr),
 }
 

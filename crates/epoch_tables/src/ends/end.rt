@@ -16,7 +16,7 @@ use epoch_cells::Cells;
 use std::mem;
 
 /// What a kind of work does at the end of a collector of `T`s. A generic caller can't do it, since values of the kind
-/// of work must be known to fit in memory. Each implementation is two lines long, like that of [`Work`].
+/// of work must be known to fit in memory. Each of its two calls takes a line, as for [`Work`].
 pub trait AtEnd<T>: Run {
     /// The places had these contents when they were closed. If the type is a parameter, nothing but `close` shows it.
     ghost closed: { PlaceBoard → List (Option (Sealed (Job Self))) → Type 0 };

@@ -12,10 +12,10 @@ use std::alloc::Global;
 
 /// Takes steps in a world, and returns them.
 ///
-/// If the world is new, of two participants, in epoch 0 and with room for a bag, the steps end with a whole collection
-/// for an epoch one past the seal of a bag. In that bag is a job that a participant other than the one that deferred it
-/// still blocks. If a bag were expired one epoch after its seal, that job would be called too early. So a bag waits two
-/// epochs.
+/// If the world is new, in epoch 0, and has the sizes of `Shape::usual` for two participants, the steps end with a
+/// whole collection for an epoch one past the seal of a bag. In that bag is a job that a participant other than the one
+/// that deferred it still blocks. If a bag were expired one epoch after its seal, that job would be called too early.
+/// So a bag waits two epochs.
 ///
 /// `NoMemory`: an allocation was refused. The world may have taken some of the steps.
 pub fn sharp_steps<S: BagStore<Job = Deferral>>(
@@ -23,10 +23,10 @@ pub fn sharp_steps<S: BagStore<Job = Deferral>>(
     world: &mut World<S>,
 ) -> Result<Vec<Step>, Fault>
     // `sharp_steps` takes a list of steps in a world over any store, and returns the list: the steps lead from the
-    // world's state before to the state after. The only error is `NoMemory`. If that world was new, of two positions,
-    // in epoch 0 and with a place, the steps end with a whole collection, which leaves a bag whose seal is one below
-    // the collection's epoch. Meanwhile a participant that did not defer the bag's job has stayed pinned since the
-    // deferral.
+    // world's state before to the state after. The only error is `NoMemory`. If that world was new, in epoch 0, and had
+    // the sizes of `Shape::usual` for two participants, the steps end with a whole collection, which leaves a bag whose
+    // seal is one below the collection's epoch. Meanwhile a participant that did not defer the bag's job has stayed
+    // pinned since the deferral.
     ensures sharp { IfOk result (λ steps. LeadsToSharp world.old steps.items world.new) }
     ensures no_memory { IfErr result (λ fault. fault ≡ NoMemory) }
 {
