@@ -76,7 +76,7 @@ pages:
 	@tools/pages.py
 
 words:
-	@tools/pages.py --words
+	@tools/words.py
 
 runs:
 	@tools/runs.py --try
@@ -88,6 +88,7 @@ test:
 	@tools/names.py
 	@tools/take.py --test
 	@tools/pages.py --check
+	@tools/words.py --check
 	@tools/sizes.py
 	@tools/repeats.py
 	@tools/gate.py

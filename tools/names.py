@@ -11,6 +11,7 @@
 - No two public types of all crates have one name, and no two definitions in specs/.
 - README.md says which crates of the toolchain are trusted: those that the lines of library crates in crates.txt name.
 - WORKING.md has the limits of tools/sizes.py.
+- Where a page has a line '<!-- path: a > b > c -->', each function of the path calls the next one.
 """
 import glob
 import re
@@ -42,17 +43,18 @@ SCRIPTS = re.findall(r"^# (.*)$", open("crates/epoch_run_script/runs.txt", encod
 CLAUSE = r"(?:ensures|requires)\*? (" + WORD + r") \{"
 
 
-def contracts():
-    """The names of the clauses of all functions of one name, by that name."""
+def functions():
+    """The texts of all functions of one name, by that name."""
     found = {}
     for text in SOURCES.values():
         for piece in re.split(r"\bfn (?=" + WORD + r"\s*[<(])", text)[1:]:
-            clauses = re.findall(CLAUSE, piece)
-            found.setdefault(re.match(WORD, piece)[0], set()).update(clauses)
+            found.setdefault(re.match(WORD, piece)[0], []).append(piece)
     return found
 
 
-CONTRACTS = contracts()
+FUNCTIONS = functions()
+# The names of the clauses of all functions of one name, by that name.
+CONTRACTS = {name: set(re.findall(CLAUSE, " ".join(pieces))) for name, pieces in FUNCTIONS.items()}
 TYPE = re.compile(rf"^\s*pub (?:struct|enum|trait|type) ({WORD})", re.M)
 DEFINITION = re.compile(r"^(?:(?:abbrev|unfoldable) )*pub (?:(?:record|data) )?(?!use |mod )([^\s:({]+)", re.M)
 GHOSTS = set(re.findall(r"ghost (" + WORD + r")\s*[:=]", "".join(SOURCES.values())))
@@ -118,6 +120,15 @@ def bad_scripts(text):
             yield f"no script is named {name}"
 
 
+def bad_paths(text):
+    """Says which functions of a page's paths don't call the next one."""
+    for path in re.findall(r"<!-- path: (\w.*) -->", text):
+        names = path.split(" > ")
+        for caller, called in zip(names, names[1:]):
+            if not any(re.search(rf"\b{called}(::<.*>)?\(", piece) for piece in FUNCTIONS.get(caller, [])):
+                yield f"no function {caller} calls {called}"
+
+
 def doubles():
     """Says which public types have one name, and which definitions."""
     for what, texts, pattern in ("public types", SOURCES, TYPE), ("definitions", SPECS, DEFINITION):
@@ -155,7 +166,7 @@ def main():
     amiss = 0
     for document in DOCUMENTS:
         text = open(document, encoding="utf-8").read()
-        found = [*bad_links(document, text), *(bad_words(text) if document != "CHANGELOG.md" else [])]
+        found = [*bad_links(document, text), *bad_paths(text), *(bad_words(text) if document != "CHANGELOG.md" else [])]
         found += bad_rows(text) if document == "docs/PROMISES.md" else []
         found += bad_scripts(text) if document == "docs/DIFFERENCES.md" else []
         for line in found:

@@ -4,9 +4,8 @@ crates in docs/ARCHITECTURE.md, and the tables of claims and of tests in docs/PR
 
 usage: tools/pages.py            at the top of the repository; writes them
        tools/pages.py --check    writes nothing, and ends with status 1 if a page is not what would be written, if a line
-                                 of crates.txt names a crate that no file of its own crate names, if a file of tests
-                                 doesn't say what it is about, or if pages that are written by hand have too many words
-       tools/pages.py --words    prints how many words each page has that is written by hand
+                                 of crates.txt names a crate that no file of its own crate names, or if a file of tests
+                                 doesn't say what it is about
 
 A crate's page has the text at the head of its lib.rt, what it stands on, and each public item with its first sentence:
 of a call, with its clauses and with the sentence that stands above a clause. A claim is such a sentence.
@@ -18,16 +17,12 @@ import sys
 
 MAP_PAGE, PROMISES = "docs/ARCHITECTURE.md", "docs/PROMISES.md"
 FIRST, LAST = "<!-- by make pages, from here -->\n", "<!-- to here -->\n"
-# How many words the pages may have that are written by hand.
-WORDS_BY_HAND = 29_000
-README_LINES, README_WORDS, UNRELEASED_WORDS, DECISION_WORDS = 120, 1_200, 900, 70
 WRITTEN = "<!-- Written by `make pages` from the sources: change those. -->"
 
 ITEM = re.compile(r"pub (struct|enum|trait|type|const) (\w+)")
 IMPL = re.compile(r"(?:unsafe )?impl\b")
 # The definitions that a file's clauses can cite: a clause's own variables may have the name of one elsewhere.
-CITES = re.compile(r"^ *ghost use Rattle\.epoch\w*\.specs\.\w+\.\{([^}]*)\}", re.M)
-DEFINITION = re.compile(r"^(?:(?:abbrev|unfoldable) )*pub (?:(?:record|data) )?(?!use |mod )([^\s:({]+)", re.M)
+CITES = re.compile(r"^ *ghost use Rattle\.epoch\w*\.specs\.(\w+)\.\{([^}]*)\}", re.M)
 CITED = re.compile(r"^(?:ghost )?use Rattle\.epoch\w*\.proofs\.(\w+)\.\{([^}]*)\}", re.M)
 CLAUSE = re.compile(r"(requires|ensures)\*?(?: (\w+))? \{")
 LINK = re.compile(r"\[(`[^`]+`)\](?:\([^)]*\))?")
@@ -172,7 +167,7 @@ class Module:
                     self.items[call[3]] = made
             elif line and not line.startswith((" ", "}", ")", "/", "#")):
                 owner, shows_all = self.take(lines, at)
-        cites = {name for names in CITES.findall("\n".join(lines)) for name in re.findall(r"[^\s,]+", names)}
+        cites = {name: file for file, names in CITES.findall("\n".join(lines)) for name in re.findall(r"[^\s,]+", names)}
         for call in self.calls:
             call.cites = cites
         uses = re.findall(r"^pub use ([^;]+);", "\n".join(lines), re.M)
@@ -270,12 +265,6 @@ def page_of(crate, uses):
             yield from told(call)
 
 
-def definitions():
-    """Returns the file in specs/ of each definition."""
-    files = sorted(glob.glob("crates/*/specs/**/*.antt", recursive=True))
-    return {name: os.path.basename(path)[: -len(".antt")] for path in files for name in DEFINITION.findall(text_of(path))}
-
-
 def lemmas(crate, call):
     """Returns the lemmas that the proof files of a function cite, by their files."""
     found = {}
@@ -304,15 +293,15 @@ def groups(call):
     return found
 
 
-def promises(crate, defined):
+def promises(crate):
     """Returns the table of a crate's claims: each sentence above a clause, with the call, and what the clause rests on."""
     rows = []
     for call in all_calls(Module(root_of(crate))):
         for above, names, says in groups(call):
-            cited = sorted({it for it in re.findall(r"[^\s(){},.]+", " ".join(says)) if it in defined and it in call.cites})
+            cited = sorted({it for it in re.findall(r"[^\s(){},.]+", " ".join(says)) if it in call.cites})
             where = f"`{call.owner}::{call.last}`" if call.owner else f"`{call.last}`"
             which = " " + ", ".join(f"`{it}`" for it in names) if names[0] else ""
-            rest = ", ".join(f"`{it}` (S/{defined[it]})" for it in cited)
+            rest = ", ".join(f"`{it}` (S/{call.cites[it]})" for it in cited)
             low = [f"{', '.join(f'`{it}`' for it in sorted(set(many)))} (P/{file})" for file, many in sorted(lemmas(crate, call).items())]
             cells = [above.rstrip(".").replace("|", r"\|"), where + which, rest, "; ".join(low)]
             rows.append(re.sub("  +", " ", f"| {' | '.join(cells)} |\n"))
@@ -351,40 +340,16 @@ def unnamed(crate, used):
     return [it for it in used if not re.search(rf"\b{it}::|\bRattle\.{it}\b|\buse {it}\b", text)]
 
 
-def by_hand(path):
-    """Returns how many words of a page are written by hand: what stands between marks is written by a command."""
-    return len(re.sub(r"<!-- by make \w+, from here -->.*?<!-- to here -->", "", text_of(path), flags=re.DOTALL).split())
-
-
-def too_long():
-    """Returns what is longer than it may be: the README, the changes of the version to come, or a decision."""
-    readme, changes = text_of("README.md"), text_of("CHANGELOG.md")
-    unreleased = changes.partition("unreleased")[2].partition("\n## ")[0]
-    entries = [it for it in text_of("docs/DECISIONS.md").split("\n\n") if it.startswith("**")]
-    sizes = [
-        ("the lines of README.md", readme.count("\n"), README_LINES),
-        ("the words of README.md", len(readme.split()), README_WORDS),
-        ("the words of what is unreleased in CHANGELOG.md", len(unreleased.split()), UNRELEASED_WORDS),
-        *((f"the words of the decision {it[:40]}..", len(it.split()), DECISION_WORDS) for it in entries),
-    ]
-    return [f"{what} are {size}, and not at most {most}" for what, size, most in sizes if size > most]
-
-
 def wanted(found):
     """Returns each page that is written, with its text."""
     uses = {name: used for _, crates in found for name, used in crates.items()}
     libraries = [it for it in uses if root_of(it).endswith("lib.rt") and not it.startswith("tests_")]
     pages = {f"crates/{it}/README.md": "".join(page_of(it, uses)) for it in libraries}
-    defined = definitions()
-    claims = "".join([*(part for it in libraries for part in promises(it, defined)), *tested(uses)])
+    claims = "".join([*(part for it in libraries for part in promises(it)), *tested(uses)])
     return {**pages, MAP_PAGE: filled(MAP_PAGE, "".join(table(found))), PROMISES: filled(PROMISES, claims.lstrip())}
 
 
 def main(words):
-    hands = ["README.md", "CHANGELOG.md", "beside/README.md", *sorted(glob.glob("docs/*.md"))]
-    if words == ["--words"]:
-        print("\n".join(f"{by_hand(it):6} {it}" for it in hands) + f"\n{sum(map(by_hand, hands)):6} words by hand, of at most {WORDS_BY_HAND}")
-        return 0
     found = sections()
     pages = wanted(found)
     if words != ["--check"]:
@@ -395,11 +360,7 @@ def main(words):
     faults = [f"{path}: `make pages` would write another text" for path, text in pages.items() if not os.path.isfile(path) or text_of(path) != text]
     for name, used in [it for _, crates in found for it in crates.items()]:
         faults += [f"crates.txt: no file of {name} names {it}" for it in unnamed(name, used)]
-    faults += too_long()
-    count = sum(map(by_hand, hands))
-    if count > WORDS_BY_HAND:
-        faults.append(f"the pages have {count} words that are written by hand, and not at most {WORDS_BY_HAND}")
-    print("\n".join(faults) or f"{len(pages)} pages are what `make pages` writes, and {count} words are written by hand")
+    print("\n".join(faults) or f"{len(pages)} pages are what `make pages` writes")
     return 1 if faults else 0
 
 

@@ -8,7 +8,7 @@ type Round = Box<dyn Fn(usize, u64) -> Duration>;
 struct Row {
     name: &'static str,
     threads: &'static [usize],
-    /// Turns of a round, which then takes about a millisecond. A multiple of 64, of 128 where the work pins.
+    /// Turns of a round, which mostly takes about a millisecond. A multiple of 64, of 128 where the work pins.
     turns: u64,
     round: Round,
 }
