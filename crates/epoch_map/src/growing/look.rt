@@ -39,16 +39,22 @@ impl<'q, 's, J: PostSet, N: MapNode> GrowingMap<'q, 's, J, N> {
         None
     }
 
-    // Looks for the node of this key from an earlier bucket on.
+    // Looks for the node of this key from the one to which its bucket's hint leads, or from an earlier bucket on.
     #[inline(never)]
-    fn seek_from_before<'g, Q: Seeks<N::Key>>(
+    fn seek_further<'g, Q: Seeks<N::Key>>(
         &self,
         guard: &'g LendingGuard<'_, J>,
         key: &Q,
         bucket: Bucket,
+        hinted: Option<&'g N>,
     ) -> Option<&'g N>
         ensures found { IfSome result (λ node. Q.compared (N.key node.now) key.now ≡ Equal) }
     {
+        if let Some(node) = hinted {
+            if let Some(Ordering::Less) = self.order(node, key, bucket.number) {
+                return self.seek(guard, key, bucket.number, hinted);
+            }
+        }
         let before = match self.hinted_before(guard, key, bucket, true) {
             Some(hinted) if hinted.found => return Some(hinted.node),
             Some(hinted) => Some(hinted.node),
@@ -59,7 +65,7 @@ impl<'q, 's, J: PostSet, N: MapNode> GrowingMap<'q, 's, J, N> {
 
     /// Looks for the entry of this key, and lends it for as long as the guard is borrowed. `None`: the key was seen
     /// missing.
-    #[inline]
+    #[inline(always)]
     pub fn get<'g, Q: Seeks<N::Key>>(
         &self,
         guard: &'g LendingGuard<'_, J>,
@@ -67,16 +73,17 @@ impl<'q, 's, J: PostSet, N: MapNode> GrowingMap<'q, 's, J, N> {
     ) -> Option<&'g N>
         ensures found { IfSome result (λ node. Q.compared (N.key node.now) key.now ≡ Equal) }
     {
-        let number = key.sought_number();
-        let bucket = self.table.bucket_of(number);
-        if let Some(node) = self.named(self.hint(bucket), guard) {
-            match self.order(node, key, number) {
-                Some(Ordering::Equal) => return Some(node),
-                Some(Ordering::Less) => return self.seek(guard, key, number, Some(node)),
-                _ => {}
+        let bucket = self.table.bucket_of(key.sought_number());
+        let hinted = self.named(self.hint(bucket), guard);
+        if let Some(node) = hinted {
+            // A node whose pointer has no tag is in the map. Mostly it is the one that is looked for.
+            if self.behind(node).tag() == 0 {
+                if let Ordering::Equal = key.compare_with(node.key()) {
+                    return hinted;
+                }
             }
         }
-        self.seek_from_before(guard, key, bucket)
+        self.seek_further(guard, key, bucket, hinted)
     }
 
     /// Returns whether the key is there.
