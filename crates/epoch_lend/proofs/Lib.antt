@@ -10,7 +10,8 @@ pub mod Watching
 pub mod TurnsKeyless
 pub mod TurnFields
 pub mod BlockParts
-pub mod Places
+pub mod PlaceMemory
+mod Places
 pub mod Turned
 pub mod Finding
 pub mod Seeing

@@ -25,7 +25,7 @@ use Rattle.epoch_lend.specs.Posts.{known, is_among, IsAmong}
 use Rattle.epoch_lend.specs.Loans.{Loan, no_loan, filled_pocket, pocket, stock, Shown, are_within, Within, glance_owns}
 use Rattle.epoch_lend.proofs.Loans.{lends}
 use Rattle.epoch_lend.proofs.Reading as reading
-use Rattle.epoch_lend.specs.Turning.{TurnNames, TurnStage, shown, turn_word, TurnOf, turn_logs, is_turn}
+use Rattle.epoch_lend.specs.Turning.{TurnNames, TurnStage, shown, turn_word, TurnOf, turn_logs, is_turn, value_in}
 use Rattle.epoch_lend.specs.Turning.{turn_is, found_of, lent_with, lent_of, shown_with, turn_holds, at_turn}
 use Rattle.epoch_lend.specs.Turning.{at_turn_word}
 use Rattle.epoch_lend.proofs.Turned as steps
@@ -62,7 +62,7 @@ module _ {M : Type 1} {𝓤 : Ura M} (𝓛 : Logic 𝓤) (R : RattleType) (d : T
 
     -- a value of this turn, as a look sees it
     abbrev Seen : E → Shown R.Denot
-    Seen e = record { at = d.at; value = e.0; lifetime = e.1; posts = d.posts }
+    Seen e = record { at = value_in R d.at; value = e.0; lifetime = e.1; posts = d.posts }
 
     abbrev lent_now : Loan
     lent_now = record { atom = γ; epoch = epoch; log = η; pocket_name = δ }
@@ -83,10 +83,12 @@ module _ {M : Type 1} {𝓤 : Ura M} (𝓛 : Logic 𝓤) (R : RattleType) (d : T
 
     -- the loan is left with the word
     lends_it : (e : E) (ls : List Loan) → Within d.posts ls
-        → ⟦ fsep (stock e.1 ls) (fsep (lent_at R d.at e.0 (e.1 ∷ [])) (flent (e.1 ∷ []) (lies_at R full_share d.at
+        → ⟦ fsep (stock e.1 ls) (fsep (lent_at R (value_in R d.at) e.0 (e.1 ∷ [])) (flent (e.1 ∷ []) (lies_at R
+        full_share (value_in R d.at)
         e.0))) ⟧ ∗ ⟦ Offer ⟧ ⊢ upd 𝓤 (⟦ lent_of R d e ⟧ ∗ ⟦ Loaned e ⟧)
     lends_it e ls within = let Goal : Pr = ⟦ lent_of R d e ⟧ ∗ ⟦ Loaned e ⟧ in
-        qed 𝓛 (‵ (fsep (stock e.1 ls) (fsep (lent_at R d.at e.0 (e.1 ∷ [])) (flent (e.1 ∷ []) (lies_at R full_share d.at
+        qed 𝓛 (‵ (fsep (stock e.1 ls) (fsep (lent_at R (value_in R d.at) e.0 (e.1 ∷ [])) (flent (e.1 ∷ []) (lies_at R
+        full_share (value_in R d.at)
         e.0)))) ∷ ‵ Offer ∷ []) ∵ fsplit3 ! $ move ! (3 ∷ []) $ fsplit3 ! $ move ! (2 ∷ []) $ fsplit ! $
         -- [auth; entered; the lender's right; obs; stock; shown; the value afterwards]
         move ! (4 ∷ 2 ∷ 3 ∷ 0 ∷ 1 ∷ []) $ types.Kit.group ! 5 $
@@ -94,8 +96,9 @@ module _ {M : Type 1} {𝓤 : Ura M} (𝓛 : Logic 𝓤) (R : RattleType) (d : T
         lent_now) $
         settle 𝓛 Goal (‵ (stock e.1 (lent_now ∷ ls)) ⊛ ‵ (filled_pocket e.1 δ (length ls))) $ split ! $
         suffices ! Goal (upd_i 𝓤 Goal) $ move ! (2 ∷ []) $
-        use1 𝓛 (‵ (lent_at R d.at e.0 (e.1 ∷ [])) ⊛ ‵ (lent_at R d.at e.0 (e.1 ∷ []))) (contraction 𝓛 (lent_at R
-        d.at e.0) (lent_at_shr_laws R L d.at e.0) (e.1 ∷ [])) $ split ! $
+        use1 𝓛 (‵ (lent_at R (value_in R d.at) e.0 (e.1 ∷ [])) ⊛ ‵ (lent_at R (value_in R d.at) e.0 (e.1 ∷ [])))
+        (contraction 𝓛 (lent_at R
+        (value_in R d.at) e.0) (lent_at_shr_laws R L (value_in R d.at) e.0) (e.1 ∷ [])) $ split ! $
         nothing ! $ fpack ! (Within d.posts (lent_now ∷ ls)) (λ _. ftrue) (and_from (is_among η d.posts) (are_within
         d.posts ls) of within) $
         -- [within; shown; shown; stock; the pocket; the value afterwards]
@@ -149,7 +152,7 @@ module _ {M : Type 1} {𝓤 : Ura M} (𝓛 : Logic 𝓤) (R : RattleType) (d : T
 
     -- what was lent is now lent for the guard's lifetime
     abbrev got_with : E → Fml
-    got_with e = fsep (turn_is R d.log t e) (lent_at R d.at e.0 (γ ∷ []))
+    got_with e = fsep (turn_is R d.log t e) (lent_at R (value_in R d.at) e.0 (γ ∷ []))
 
     abbrev got_case : ℕ → Bool → Fml
     got_case n true = fsep (known (n ≡ w)) (fex E got_with)
@@ -165,7 +168,8 @@ module _ {M : Type 1} {𝓤 : Ura M} (𝓛 : Logic 𝓤) (R : RattleType) (d : T
         move ! (1 ∷ []) $ fsplit ! $ move ! (1 ∷ []) $ fpick ! (λ e. fsplit ! $
         -- [the value of the turn; the loan; known; the pocket]
         move ! (3 ∷ 1 ∷ []) $
-        use2 𝓛 (later (‵ (flft (γ ∷ []) r) ⊛ ‵ (lent_at R d.at e.0 (γ ∷ [])))) (reading.fills 𝓛 R (Seen e) L γ r δ) $
+        use2 𝓛 (later (‵ (flft (γ ∷ []) r) ⊛ ‵ (lent_at R (value_in R d.at) e.0 (γ ∷ [])))) (reading.fills 𝓛 R (Seen
+        e) L γ r δ) $
         await ! tt $ split ! $
         -- [the guard's token; the value; the value of the turn; known]
         move ! (2 ∷ 1 ∷ []) $ fjoin ! $ fpack ! E got_with e $ move ! (2 ∷ 0 ∷ []) $ fjoin ! $
@@ -182,13 +186,15 @@ module _ {M : Type 1} {𝓤 : Ura M} (𝓛 : Logic 𝓤) (R : RattleType) (d : T
     -- which value was found, and the right to see it: one where the word was that of this turn, and else none
     module _ (κ : Lft) (n : ℕ) where
       abbrev pub Gain : ℕ × Option R.Denot × ℕ → Pr
-      Gain g = guard 𝓤 (steps.Gains 𝓛 R d w n g.0) ⟦ fsep (found_of R d.log t g.2 g.1 g.0) (glance_owns κ R d.at g.1
+      Gain g = guard 𝓤 (steps.Gains 𝓛 R d w n g.0) ⟦ fsep (found_of R d.log t g.2 g.1 g.0) (glance_owns κ R (value_in
+          R d.at) g.1
           g.0) ⟧
 
       gain : (y : Bool) → ⟦ got_case n y ⟧ ∗ ⟦ before κ (γ ∷ []) ⟧ ⊢ ex 𝓤 Gain
       gain true = qed 𝓛 (‵ (got_case n true) ∷ ‵ (before κ (γ ∷ [])) ∷ []) ∵ fsplit ! $ fpick ! (λ hit. drop ! $
           fpick ! (λ e. fsplit ! $ move ! (2 ∷ 1 ∷ []) $
-          use2 𝓛 (‵ (lent_at R d.at e.0 κ)) ((lent_at_shr_laws R L d.at e.0).mono M 𝓤 𝓛 κ (γ ∷ [])) $
+          use2 𝓛 (‵ (lent_at R (value_in R d.at) e.0 κ)) ((lent_at_shr_laws R L (value_in R d.at) e.0).mono M 𝓤 𝓛 κ
+          (γ ∷ [])) $
           move ! (1 ∷ 0 ∷ []) $ fjoin ! $
           show ! Gain (1, Some e.0, e.1) $ check ! ((λ _. refl), (λ miss. absurd (miss hit))) $ done !))
       gain false = qed 𝓛 (‵ (got_case n false) ∷ ‵ (before κ (γ ∷ [])) ∷ []) ∵ fpick ! (λ miss. drop ! $ drop ! $

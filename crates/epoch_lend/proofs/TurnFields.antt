@@ -119,18 +119,29 @@ module _ (R : RattleType) where
     (refl, ((refl, f), ((tt, (refl, tt)), tt))),
   )
 
+-- the bytes of a place's turns are those of their marker, which are none
+abbrev pub none_val : Val
+none_val = vstruct (vcons (vstruct vnil) vnil)
+
+-- they are of their type
+pub none_typed : T (has_ty (ty_struct [] (tcons (ty_struct [] tnil) tnil)) none_val) × WT none_val
+none_typed = (tt, (tt, tt))
+
 module _ (R : RattleType) where
   abbrev pub Inside : RattleType
   Inside = inside.the_row R
 
-  -- the bytes of a place's word
-  pub inside_told : (n : ℕ) (vs : List Val) → Is Inside (record { word = n; marker = record {} }) vs
-      → (vs ≡ name_val n ∷ []) × (n < 2 ^ 64)
-  inside_told n vs is = (
-    is.1.0 ∙ ap (λ (ws : List Val). vstruct (of_list (ws ++ (is.0.1.0 ++ []))) ∷ []) is.1.1.0.0 ∙ ap
-        (λ (ws : List Val). vstruct (of_list (vint w64 n ∷ (ws ++ []))) ∷ []) is.1.1.1.0.1.0,
-    is.1.1.0.1,
-  )
+  -- the turns of a place have these bytes
+  pub inside_told : (vs : List Val) → Is Inside (record { marker = record {} }) vs → vs ≡ none_val ∷ []
+  inside_told vs is = is.1.0 ∙ ap (λ (ws : List Val). vstruct (of_list (ws ++ [])) ∷ []) is.1.1.0.1.0
+
+  -- and are made of them
+  pub inside_made : {M : Type 1} {𝓤 : Ura M} (𝓛 : Logic 𝓤)
+      → ent 𝓤 (emp 𝓤) (sem 𝓛 (Inside.own_val (record { marker = record {} }) (none_val ∷ [])))
+  inside_made 𝓛 = makes_shadow 𝓛 (Inside.own_val (record { marker = record {} }) (none_val ∷ [])) (λ vss. (
+    tt,
+    ((λ uss. (tt, tt)), tt),
+  )) ((vstruct vnil ∷ [], tt), (refl, ((tt, (refl, tt)), tt)))
 
 module _ (R : RattleType) where
   abbrev pub Found : RattleType
@@ -211,14 +222,6 @@ looked_typed null_ptr n t f g = (
   tt,
   (record { fits = f }, ((record { fits = g }, (tt, tt)), ((record { fits = lit< tt }, (tt, tt)), tt))),
 )
-
--- a new word is 0
-abbrev pub none_val : Val
-none_val = vstruct (vcons (vint w64 0) (vcons (vstruct vnil) vnil))
-
--- a new word is of its type
-pub none_typed : T (has_ty (ty_struct [] (tcons (ty_int w64) (tcons (ty_struct [] tnil) tnil))) none_val) × WT none_val
-none_typed = (tt, (record { fits = lit< tt }, (tt, tt)))
 
 -- what a take answers
 abbrev pub two_of : Val → Val → Val

@@ -31,7 +31,7 @@ use Rattle.epoch_lend.specs.Loans.{Loan, Within, marked_owns}
 use Rattle.epoch_lend.specs.Turning.{TurnNames, TurnStage, vacant, claimed, shown, removed, turn_word, TurnOf}
 use Rattle.epoch_lend.specs.Turning.{turn_logs, is_turn, turn_is, claim_has, claim_of, vacancy_of, log_of}
 use Rattle.epoch_lend.specs.Turning.{Awaits, turns_so_far, lent_with, lent_of, shown_with, turn_holds, at_turn}
-use Rattle.epoch_lend.specs.Turning.{at_turn_word, turns_at}
+use Rattle.epoch_lend.specs.Turning.{at_turn_word, turns_at, value_in}
 
 -- the stage of a word that is four times a turn
 is_vacant : (s : TurnStage) (t : ℕ) → turn_word s ≡ 4 * t → s ≡ vacant t
@@ -126,7 +126,7 @@ module _ {M : Type 1} {𝓤 : Ura M} (𝓛 : Logic 𝓤) (R : RattleType) (d : T
   -- ---- a claim
   module _ (t : ℕ) where
     abbrev pub Gained : Fml
-    Gained = claim_has R d.at δ (4 * t + 1)
+    Gained = claim_has R (value_in R d.at) δ (4 * t + 1)
 
     abbrev pub Claimed : ℕ → Fml
     Claimed n = fall (n ≡ 4 * t) (λ _. Gained)
@@ -166,8 +166,9 @@ module _ {M : Type 1} {𝓤 : Ura M} (𝓛 : Logic 𝓤) (R : RattleType) (d : T
   module _ (t p : ℕ) (e : E) where
     -- what a caller has at a place of this word once its value is lent for a lifetime of its own
     abbrev pub Showing : Fml
-    Showing = fsep (fobs δ (gnum p)) (fsep (flft (e.1 ∷ []) full_share) (fsep (lent_at R d.at e.0 (e.1 ∷ []))
-        (flent (e.1 ∷ []) (lies_at R full_share d.at e.0))))
+    Showing = fsep (fobs δ (gnum p)) (fsep (flft (e.1 ∷ []) full_share) (fsep (lent_at R (value_in R d.at) e.0 (e.1 ∷
+        []))
+        (flent (e.1 ∷ []) (lies_at R full_share (value_in R d.at) e.0))))
 
     -- the place shows the value, as that of its turn
     shows_at : (n : ℕ) → Awaits t p → n ≡ p → (s : TurnStage)
@@ -202,8 +203,8 @@ module _ {M : Type 1} {𝓤 : Ura M} (𝓛 : Logic 𝓤) (R : RattleType) (d : T
         fpack ! (List E) (is_turn R d.log t e) es $ done !)))
 
     shows : Awaits t p → (n : ℕ) → ⟦ W n ⟧ ∗ ⟦ Showing ⟧ ⊢ upd 𝓤 (⟦ W (4 * t + 2) ⟧ ∗ ⟦ turn_is R d.log t e ⟧)
-    shows awaits n = let Rest = fsep (flft (e.1 ∷ []) full_share) (fsep (lent_at R d.at e.0 (e.1 ∷ []))
-        (flent (e.1 ∷ []) (lies_at R full_share d.at e.0))) in
+    shows awaits n = let Rest = fsep (flft (e.1 ∷ []) full_share) (fsep (lent_at R (value_in R d.at) e.0 (e.1 ∷ []))
+        (flent (e.1 ∷ []) (lies_at R full_share (value_in R d.at) e.0))) in
         qed 𝓛 (‵ (W n) ∷ ‵ Showing ∷ []) ∵ fpick ! (λ s. fsplit3 ! $ move ! (3 ∷ []) $ fsplit ! $ move ! (0 ∷ 3 ∷ []) $
         use2 𝓛 (given (gnum p ≡ gnum n) (‵ (fobs δ (gnum p)) ⊛ ‵ (fauth δ (gnum n))))
         (𝓛.names.name_agree δ (gnum p) (gnum n)) $ learn ! (λ same. split ! $
@@ -278,7 +279,7 @@ module _ {M : Type 1} {𝓤 : Ura M} (𝓛 : Logic 𝓤) (R : RattleType) (d : T
   -- ---- a place is vacant, at the turn that it awaits
   module _ (t p : ℕ) where
     abbrev pub Kept : Fml
-    Kept = claim_has R d.at δ p
+    Kept = claim_has R (value_in R d.at) δ p
 
     -- who has the word gives the place back
     releases : Awaits t p → (n : ℕ) → ⟦ W n ⟧ ∗ ⟦ Kept ⟧ ⊢ upd 𝓤 (⟦ W (4 * t) ⟧ ∗ ⟦ ftrue ⟧)
@@ -300,7 +301,7 @@ module _ {M : Type 1} {𝓤 : Ura M} (𝓛 : Logic 𝓤) (R : RattleType) (d : T
   -- ---- the word's end
   module _ (n : ℕ) where
     abbrev pub Left : ℕ → Pr
-    Left k = guard 𝓤 ((t : ℕ) → n ≡ 4 * t → k ≡ 1) ⟦ claim_of R d.at δ n k ⟧
+    Left k = guard 𝓤 ((t : ℕ) → n ≡ 4 * t → k ≡ 1) ⟦ claim_of R (value_in R d.at) δ n k ⟧
 
     left_at : (s : TurnStage) → n ≡ turn_word s → ⟦ turn_holds R d s ⟧ ⊢ ex 𝓤 Left
     left_at (vacant u) is = qed 𝓛 (‵ (turn_holds R d (vacant u)) ∷ []) ∵ fsplit3 ! $ keep ! (0 ∷ 2 ∷ []) $
@@ -366,7 +367,7 @@ module _ {M : Type 1} {𝓤 : Ura M} (𝓛 : Logic 𝓤) (R : RattleType) (d : T
 
   module _ (t n : ℕ) where
     abbrev pub Gain : ℕ → Pr
-    Gain k = guard 𝓤 (Gains (4 * t) n k) ⟦ claim_of R d.at δ (4 * t + 1) k ⟧
+    Gain k = guard 𝓤 (Gains (4 * t) n k) ⟦ claim_of R (value_in R d.at) δ (4 * t + 1) k ⟧
 
     -- a claim has the place where the word was that of a vacant place at this turn, and else nothing
     pub gains : ⟦ Claimed t n ⟧ ⊢ ex 𝓤 Gain
@@ -378,8 +379,9 @@ module _ {M : Type 1} {𝓤 : Ura M} (𝓛 : Logic 𝓤) (R : RattleType) (d : T
 
   module _ (t : ℕ) (e : E) (n : ℕ) where
     abbrev pub Take : ℕ × List Loan → Pr
-    Take g = guard 𝓤 (Gains (4 * t + 2) n g.0 × Within d.posts g.1) ⟦ fsep (marked_owns R d.at e.0 e.1 g.0 g.1 [])
-        (vacancy_of R d.at δ (4 * t + 3) e g.0) ⟧
+    Take g = guard 𝓤 (Gains (4 * t + 2) n g.0 × Within d.posts g.1) ⟦ fsep (marked_owns R (value_in R d.at) e.0 e.1
+        g.0 g.1 [])
+        (vacancy_of R (value_in R d.at) δ (4 * t + 3) e g.0) ⟧
 
     -- a mark has the value with its loans where the word was that of its turn, and else nothing
     pub takes : ⟦ Outed t e n ⟧ ⊢ ex 𝓤 Take

@@ -23,6 +23,7 @@ use Rattle.epoch_lend.specs.Turning.{
   turn_holds,
   turns_so_far,
   at_turn_word,
+  value_in,
 }
 
 -- nor does the value of a turn
@@ -43,7 +44,7 @@ room_keyless R null_ptr = tt
 -- nor does what a place has at a stage
 holds_keyless : (R : RattleType) → IsSend R → IsSync R → (d : TurnNames) (s : TurnStage) → Keyless (turn_holds R d s)
 unfolding latest
-holds_keyless R s y d (vacant t) = (tt, (so_far_keyless R d t, room_keyless R d.at))
+holds_keyless R s y d (vacant t) = (tt, (so_far_keyless R d t, room_keyless R (value_in R d.at)))
 holds_keyless R s y d (claimed t) = so_far_keyless R d t
 holds_keyless R s y d (shown t) = (
   tt,
@@ -55,12 +56,12 @@ holds_keyless R s y d (shown t) = (
         (
           (tt, loans_keyless e.1.1 ls),
           (
-            seen R y d.at e.1.0
+            seen R y (value_in R d.at) e.1.0
                 (e.1.1 ∷ []),
             λ _. tt,
           ),
         ),
-        lies R s d.at e.1.0,
+        lies R s (value_in R d.at) e.1.0,
       ),
     ),
   ),

@@ -7,37 +7,38 @@ use Rattle.std.proofs.Common.{inl, inr, sym, ap, ◌∙◌}
 use Rattle.std.specs.Prelude.{◌≡◌, ◌⊎◌, ℕ, zero, suc, ◌+◌, ◌*◌, List, [], ◌∷◌, ◌++◌, length, Option, Some, None}
 use base.Fraction.{full_share}
 use base.Stored.{Coded, coded×, coded_ℕ, coded_list, coded_via, gnum}
-use base.Fml.{Lft, Fml, ftrue, ffalse, fsep, fex, fobs, fauth, fbor, flent}
+use base.Fml.{Lft, Fml, ftrue, ffalse, fsep, fex, froom, fwand, fobs, fauth, fbor, flent}
 use base.Growing.{Order, prefixes, latest, at_least}
 use denote.RattleType.{RattleType}
+use mir.Syntax.{Ty, w64, ty_int, ty_struct, tcons, tnil}
 use mir.Raw.{raw}
 use denote.Memory.{lone}
-use denote.RawPtr.{Ptr, block_ptr, null_ptr, coded_ptr, lies_at, room_for}
+use denote.RawPtr.{Ptr, InBlock, block_of, count_of, coded_ptr, lies_at, room_for, ◌+ₚ◌}
 use denote.Sharing.{said, beside, some, ends, always}
+use prog.Memory.{align, up}
 use denote.Struct.Lending.{lent_at}
 use Rattle.core.specs.Sync.RawAtomic.{word}
 use Rattle.epoch_lend.specs.Posts.{known}
 use Rattle.epoch_lend.specs.Loans.{Loan, stock, Within}
 
--- what names a place: where its values lie, the log of their turns, who has the word, and whose guards may look
+-- what names a place: where its memory lies and where its values do, the log of their turns, who has the word, and
+-- whose guards may look
 pub record TurnNames : Type 0 where
   pub at : Ptr
+  pub value : Ptr
   pub log : ℕ
   pub state : ℕ
   pub posts : List ℕ
 
 abbrev pub turn_names_coded : Coded TurnNames
-turn_names_coded = coded_via (coded× coded_ptr (coded× coded_ℕ (coded× coded_ℕ (coded_list coded_ℕ)))) (λ (d :
-    TurnNames). (
-      d.at,
-      (
-        d.log,
-        (
-          d.state,
-          d.posts,
-        ),
-      ),
-    )) (λ x y e i. record { at = (e i).0; log = (e i).1.0; state = (e i).1.1.0; posts = (e i).1.1.1 })
+turn_names_coded = coded_via (coded× coded_ptr (coded× coded_ptr (coded× coded_ℕ (coded× coded_ℕ (coded_list
+    coded_ℕ))))) (λ (d : TurnNames). (d.at, (d.value, (d.log, (d.state, d.posts))))) (λ x y e i. record {
+      at = (e i).0;
+      value = (e i).1.0;
+      log = (e i).1.1.0;
+      state = (e i).1.1.1.0;
+      posts = (e i).1.1.1.1;
+    })
 
 -- the state at a turn
 pub data TurnStage : Type 0 where
@@ -86,6 +87,19 @@ turn_is R log turn e = fex (List (TurnOf R.Denot)) (is_turn R log turn e)
 abbrev pub turn_shares : (R : RattleType) → ℕ → ℕ → TurnOf R.Denot → Lft → Fml
 turn_shares R log turn e = said (turn_is R log turn e)
 
+-- where the value lies in the memory of a place, which begins with the word
+abbrev pub value_in : RattleType → Ptr → Ptr
+value_in R p = p +ₚ up (align (lone R.mir)) 8
+
+-- the memory of a place, at the type as the machine sees it
+abbrev pub place_type : RattleType → Ty
+place_type R = ty_struct [] (tcons (ty_int w64) (tcons (raw (lone R.mir)) tnil))
+
+-- room for the word and room for the value are the memory of a place again
+abbrev pub memory_back : RattleType → ℕ → ℕ → Fml
+memory_back R b o = fwand (fsep (froom (ty_int w64) b (o + 0)) (fsep (froom (raw (lone R.mir)) b (o + up (align (lone
+    R.mir)) 8)) ftrue)) (froom (place_type R) b o)
+
 -- room for a value, at the type as the machine sees it, as a box has it
 abbrev pub turn_room_of : (R : RattleType) → Ptr → Fml
 turn_room_of R p = room_for (raw (lone R.mir)) p
@@ -128,9 +142,10 @@ module _ (R : RattleType) (d : TurnNames) where
 
   -- what is lent of a value that is shown: the token of its lifetime less its loans, and the value itself after it
   abbrev pub lent_with : TurnOf R.Denot → List Loan → Fml
-  lent_with e ls = fsep (fsep (stock e.1 ls) (fsep (lent_at R d.at e.0 (e.1 ∷ [])) (known (Within d.posts ls))))
+  lent_with e ls = fsep (fsep (stock e.1 ls) (fsep (lent_at R (value_in R d.at) e.0 (e.1 ∷ [])) (known (Within
+      d.posts ls))))
       (flent (e.1 ∷
-      []) (lies_at R full_share d.at e.0))
+      []) (lies_at R full_share (value_in R d.at) e.0))
 
   abbrev pub lent_of : TurnOf R.Denot → Fml
   lent_of e = fex (List Loan) (lent_with e)
@@ -140,7 +155,8 @@ module _ (R : RattleType) (d : TurnNames) where
       (lent_of s.1))
 
   abbrev pub turn_holds : TurnStage → Fml
-  turn_holds (vacant turn) = fsep (fobs d.state (gnum (4 * turn))) (fsep (turns_so_far turn) (turn_room_of R d.at))
+  turn_holds (vacant turn) = fsep (fobs d.state (gnum (4 * turn))) (fsep (turns_so_far turn) (turn_room_of R
+      (value_in R d.at)))
   turn_holds (claimed turn) = turns_so_far turn
   turn_holds (shown turn) = fsep (fobs d.state (gnum (4 * turn + 2))) (fex (List (TurnOf R.Denot) × TurnOf R.Denot)
       (shown_with turn))
@@ -152,12 +168,23 @@ module _ (R : RattleType) (d : TurnNames) where
   abbrev pub at_turn_word : ℕ → Fml
   at_turn_word n = fex TurnStage (at_turn n)
 
-  abbrev pub turns_own : (ℕ → Fml) → Fml
-  turns_own fields = fex ℕ (λ n. fsep (fields n) (at_turn_word n))
-
+  -- the word at this place in memory, with what it says
   abbrev pub turns_at : ℕ → ℕ → Fml
-  turns_at b o = turns_own (word b (o + 0))
+  turns_at b o = fex ℕ (λ n. fsep (word b (o + 0) n) (at_turn_word n))
 
-  abbrev pub turns_share : Ptr → Lft → Fml
-  turns_share (block_ptr b o) = some Lft (λ α. beside (ends α) (always (fbor α (turns_at b o))))
-  turns_share null_ptr = said ffalse
+  abbrev pub turns_here : Fml
+  turns_here = turns_at (block_of d.at) (count_of d.at)
+
+  -- the place isn't null, and its values lie behind its word
+  abbrev pub LiesThere : Type 0
+  LiesThere = InBlock d.at × (d.value ≡ value_in R d.at)
+
+  abbrev pub lies_there : Fml
+  lies_there = fex LiesThere (λ _. ftrue)
+
+  -- what the place holds beside its bytes, of which there are none
+  abbrev pub turns_own : Fml → Fml
+  turns_own bytes = fsep bytes (fsep lies_there (fsep turns_here (memory_back R (block_of d.at) (count_of d.at))))
+
+  abbrev pub turns_share : Lft → Fml
+  turns_share = beside (said lies_there) (some Lft (λ α. beside (ends α) (always (fbor α turns_here))))

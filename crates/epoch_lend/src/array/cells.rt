@@ -8,7 +8,7 @@ use crate::array::room::LentRoom;
 use crate::array::slot::{LentSlot, SlotRemoval};
 use crate::cells::block::Block;
 use crate::cells::sight::Sight;
-use crate::cells::turns::{GREATEST_TURN, TurnName};
+use crate::cells::turns::{CellAt, GREATEST_TURN, Space, TurnName};
 use crate::readers::posts::{PostSet, Posts};
 use crate::readers::reader::Pinned;
 use std::alloc::{AllocError, Global};
@@ -32,8 +32,8 @@ pub struct PlacedAt<T> {
 /// is freed. A value that is still in a cell then is not dropped, and the block is never freed.
 pub struct LendingCells<J: PostSet, T> {
     slots: Vec<LentSlot<J, T>>,
-    base: *const T,
-    block: Block<T, Global>,
+    base: CellAt<T>,
+    block: Block<Space<T>, Global>,
     alloc: Global,
     pub(crate) last_turn: u64,
     pub ghost bounded: { last_turn ≤ GREATEST_TURN },
@@ -85,7 +85,7 @@ impl<J: PostSet, T> LendingCells<J, T> {
 
     // Where the value of this slot lies.
     #[inline(always)]
-    fn place_of(&self, slot: usize) -> *const T
+    pub(crate) fn place_of(&self, slot: usize) -> CellAt<T>
         requires { slot < length self.now.slots.items }
         ensures { slice_get (map (λ s. s.turns.at) self.now.slots.items) slot ≡ Some result }
     {
@@ -119,7 +119,7 @@ impl<J: PostSet, T> LendingCells<J, T> {
         ensures spot { IfSome result (λ placed. (placed.spot.slot ≡ slot) × (placed.spot.turn ≡ placed.name.turn)) }
         ensures within { IfSome result (λ placed. placed.spot.turn ≤ self.now.last_turn) }
     {
-        match self.slots.get(slot)?.shown() {
+        match self.slots.get(slot)?.turns.shown(self.place_of(slot)) {
             Some((turn, name)) if turn <= self.last_turn => {
                 let spot = SlotTurn { slot, turn };
                 Some(PlacedAt { spot, name })

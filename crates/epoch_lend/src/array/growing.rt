@@ -210,13 +210,10 @@ impl<J: PostSet, T> GrowingCells<J, T> {
     {
         if spot.slot < self.first.len() {
             let sight = self.first.look(spot, pinned)?;
-            return Some(CellSight {
-                value: sight.value,
-                name: CellName {
-                    value: sight.name,
-                    block: None,
-                },
-            });
+            let (value, block) = (sight.name, None);
+            let name = CellName { value, block };
+            let value = sight.value;
+            return Some(CellSight { value, name });
         }
         let block = self.more.get(further_block(self.bits, spot.slot))?;
         let (slot, turn) = (index_there(spot.slot), spot.turn);
@@ -226,13 +223,10 @@ impl<J: PostSet, T> GrowingCells<J, T> {
             return None;
         }
         let sight = cells.look(there, pinned)?;
-        Some(CellSight {
-            value: sight.value,
-            name: CellName {
-                value: sight.name,
-                block: Some(block.name),
-            },
-        })
+        let (value, block) = (sight.name, Some(block.name));
+        let name = CellName { value, block };
+        let value = sight.value;
+        Some(CellSight { value, name })
     }
 
     /// Returns where the value of this slot is, so that what is left in the cells can be marked and taken back. `None`:
@@ -246,10 +240,8 @@ impl<J: PostSet, T> GrowingCells<J, T> {
             let block = self.more.get(further_block(self.bits, slot))?;
             block.value.cells().shown(index_there(slot))?
         };
-        Some(SlotTurn {
-            slot,
-            turn: placed.spot.turn,
-        })
+        let turn = placed.spot.turn;
+        Some(SlotTurn { slot, turn })
     }
 
     /// Claims the cell of this slot if it is empty, by one exchange, and returns its room, for the caller's next value,

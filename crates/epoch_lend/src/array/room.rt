@@ -26,11 +26,13 @@ pub struct LentRoom<'c, J: PostSet, T> {
     pub(crate) next_turn: u64,
     pub(crate) claim: TurnClaim<T>,
     pub ghost right: { claim.right ≡ 1 },
-    pub ghost of_slot: { (claim.state ≡ slot.now.turns.state) × (claim.at ≡ slot.now.turns.at) },
+    pub ghost of_slot: { (claim.state ≡ slot.now.turns.state) × (claim.at ≡ slot.now.turns.value) },
     pub ghost of_turn: { Awaits next_turn claim.word } by { awaits_prop next_turn claim.word },
     pub ghost within: { next_turn ≤ GREATEST_TURN + 1 },
     pub ghost of_cells: { slice_get (map (λ s. s.turns.log) cells.now.slots.items) index
         ≡ Some slot.now.turns.log },
+    pub ghost of_place: { slice_get (map (λ s. s.turns.at) cells.now.slots.items) index
+        ≡ Some slot.now.turns.at },
 }
 
 impl<'c, J: PostSet, T> LentRoom<'c, J, T> {
@@ -78,13 +80,11 @@ impl<'c, J: PostSet, T> LentRoom<'c, J, T> {
             self.release();
             return Err(value);
         }
-        let spot = SlotTurn {
-            slot: self.position,
-            turn: self.next_turn,
-        };
+        let (slot, turn) = (self.position, self.next_turn);
+        let spot = SlotTurn { slot, turn };
+        let at = self.cells.place_of(self.index);
         let filled = self.claim.fill(value);
-        let turns = &self.slot.turns;
-        let name = turns.show(filled, self.next_turn, shown_word(self.next_turn));
+        let name = self.slot.turns.show(at, filled, turn, shown_word(turn));
         Ok(PlacedAt { spot, name })
     }
 
@@ -105,10 +105,8 @@ impl<'c, J: PostSet, T> LentRoom<'c, J, T> {
     {
         let (cells, index) = (self.cells, self.index);
         let placed = self.place(value)?;
-        let spot = SlotTurn {
-            slot: index,
-            turn: placed.spot.turn,
-        };
+        let (slot, turn) = (index, placed.spot.turn);
+        let spot = SlotTurn { slot, turn };
         match cells.look(spot, pinned) {
             Some(sight) => {
                 sight.name.agree(&placed.name);
@@ -121,6 +119,9 @@ impl<'c, J: PostSet, T> LentRoom<'c, J, T> {
     /// Leaves the cell to all callers, empty at its next turn, by one store.
     pub fn release(self) {
         let vacant = vacant_word(self.next_turn);
-        self.slot.turns.release(self.claim, self.next_turn, vacant);
+        let at = self.cells.place_of(self.index);
+        self.slot
+            .turns
+            .release(at, self.claim, self.next_turn, vacant);
     }
 }

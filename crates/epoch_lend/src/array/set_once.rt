@@ -5,7 +5,7 @@ ghost use Rattle.epoch_lend.specs.Blocks.{places_in};
 
 use crate::cells::block::Block;
 use crate::cells::sight::Sight;
-use crate::cells::turns::{Place, TurnClaim, Turns, abandon};
+use crate::cells::turns::{CellAt, Place, Space, TurnClaim, Turns, abandon};
 use crate::cells::word::{claimed_word, removed_word, shown_word, vacant_word};
 use crate::post::{Pin, Post, PostGuard};
 use crate::watch::Watch;
@@ -27,8 +27,8 @@ pub struct OncePlace<T> {
 /// A fixed number of places, each of which gets a value once. Threads share it by `&`. Dropped, it drops the values.
 pub struct SetOnce<T> {
     places: Vec<OncePlace<T>>,
-    base: *const T,
-    block: Block<T, Global>,
+    base: CellAt<T>,
+    block: Block<Space<T>, Global>,
     alloc: Global,
     pub ghost laid: { map (λ p. p.turns.at) places.items ≡ places_in base block.stride (length places.items) },
     pub ghost of_block: { (block.heap ≡ alloc) × (block.at ≡ base) × (block.taken ≡ length places.items)
@@ -37,7 +37,7 @@ pub struct SetOnce<T> {
 
 impl<T> OncePlace<T> {
     // Makes a place with no value.
-    fn new(place: Place<T>) -> OncePlace<T>
+    fn new(place: Place<Space<T>>) -> OncePlace<T>
         ensures { result.turns.at ≡ place.at }
     {
         let (post, unpinned) = Post::new();
@@ -51,17 +51,8 @@ impl<T> OncePlace<T> {
         }
     }
 
-    // Looks at the value, if it is set, by one plain load.
-    #[inline(always)]
-    fn get(&self, at: *const T) -> Option<Sight<'_, T>>
-        requires { at ≡ self.now.turns.at }
-        ensures { IfSome result (λ sight. (sight.name.log ≡ self.now.turns.log) × (sight.name.turn ≡ 0)) }
-    {
-        self.turns.sight(at, 0, &self.guard)
-    }
-
     // Sets the value, by one exchange and one store. It is handed back if another caller sets one or has set one.
-    fn set(&self, at: *const T, value: T) -> Result<(), T>
+    fn set(&self, at: CellAt<T>, value: T) -> Result<(), T>
         requires { at ≡ self.now.turns.at }
         ensures { IfErr result (λ back. back ≡ value) }
     {
@@ -71,14 +62,14 @@ impl<T> OncePlace<T> {
             claim.done();
             return Err(value);
         }
-        let _ = self.turns.show(claim.fill(value), 0, shown_word(0));
+        let _ = self.turns.show(at, claim.fill(value), 0, shown_word(0));
         Ok(())
     }
 
-    // Ends the place, which nobody shares any more. Returns the right to it, and the value that it had.
-    fn end(self, at: *const T) -> Option<(TurnClaim<T>, Option<T>)>
+    // Ends the place, which nobody shares any more. Returns its memory, and the value that it had.
+    fn end(self, at: CellAt<T>) -> (Option<TurnClaim<Space<T>>>, Option<T>)
         requires { at ≡ self.turns.at }
-        ensures { IfSome result (λ ended. (ended.0.right ≡ 1) × (ended.0.at ≡ at)) }
+        ensures { IfSome result.0 (λ claim. (claim.right ≡ 1) × (claim.at ≡ at)) }
     {
         let OncePlace {
             turns,
@@ -88,31 +79,36 @@ impl<T> OncePlace<T> {
         } = self;
         let _ = post.unpin(pin, guard);
         let shown = shown_word(0);
-        let (found, which) = turns.find(0, shown);
+        let (found, which) = turns.find(at, 0, shown);
         if found != shown {
             which.done();
             let (word, claim) = turns.end(at);
             if word != vacant_word(0) {
-                return None;
+                return (None, None);
             }
-            return Some((claim, None));
+            return (Some(claim), None);
         }
         let name = which.name();
         let (again, marked, vacancy) = turns.mark(&name, at, shown, removed_word(0));
         if again != shown {
             marked.done();
             vacancy.done();
-            return None;
+            return (None, None);
         }
         let mut watch = Watch::new();
         let marked = watch.add(marked);
         let (is_clear, mut watch) = watch.unpinned(slice::from_ref(&post));
         if !is_clear {
             abandon(marked, vacancy);
-            return None;
+            return (None, None);
         }
         let (claim, value) = vacancy.reclaim(watch.collect(marked)).take();
-        Some((claim, Some(value)))
+        turns.release(at, claim, 1, vacant_word(1));
+        let (word, claim) = turns.end(at);
+        if word != vacant_word(1) {
+            return (None, Some(value));
+        }
+        (Some(claim), Some(value))
     }
 }
 
@@ -137,7 +133,7 @@ impl<T> SetOnce<T> {
 
     // Where the value of this place lies.
     #[inline(always)]
-    fn place_of(&self, index: usize) -> *const T
+    fn place_of(&self, index: usize) -> CellAt<T>
         requires { index < length self.now.places.items }
         ensures { slice_get (map (λ p. p.turns.at) self.now.places.items) index ≡ Some result }
     {
@@ -152,10 +148,8 @@ impl<T> SetOnce<T> {
             ≡ Some sight.name.log) }
         ensures turn { IfSome result (λ sight. sight.name.turn ≡ 0) }
     {
-        if index >= self.places.len() {
-            return None;
-        }
-        self.places[index].get(self.place_of(index))
+        let place = self.places.get(index)?;
+        place.turns.sight(self.place_of(index), 0, &place.guard)
     }
 
     /// Sets the value of this place, by an exchange and a store. It is handed back if one is there, or no such place.
@@ -181,11 +175,10 @@ impl<T: Drop> Drop for SetOnce<T> {
         let (mut places, mut block) = (places, block);
         'places: while let Some(place) = places.pop() {
             let index = places.len();
-            match place.end(block.place(base, index)) {
-                Some((claim, value)) => {
-                    drop(value);
-                    block = block.put_back(index, claim);
-                }
+            let (claim, value) = place.end(block.place(base, index));
+            drop(value);
+            match claim {
+                Some(claim) => block = block.put_back(index, claim),
                 None => return,
             }
         }

@@ -9,7 +9,9 @@ ghost use Rattle.epoch_lend.specs.declared.cells.turns.TheConstants.{GREATEST_TU
 
 use crate::array::cells::LendingCells;
 use crate::array::room::LentRoom;
-use crate::cells::turns::{GREATEST_TURN, Place, TurnClaim, TurnName, Turns, Vacancy, abandon};
+use crate::cells::turns::{
+    CellAt, GREATEST_TURN, Place, Space, TurnClaim, TurnName, Turns, Vacancy, abandon,
+};
 use crate::cells::word::{claimed_word, removed_word, shown_word, turn_of, vacant_word};
 use crate::lending::Marked;
 use crate::readers::posts::{Of, PostSet, Posts};
@@ -40,12 +42,14 @@ pub struct SlotRemoval<'c, J: PostSet, T> {
     turn: u64,
     pub ghost rights: { (marked.right ≡ 1) × (vacancy.right ≡ 1) },
     pub ghost alike: { (vacancy.value ≡ marked.value) × (vacancy.lifetime ≡ marked.lifetime) },
-    pub ghost of_slot: { (vacancy.state ≡ slot.now.turns.state) × (vacancy.at ≡ slot.now.turns.at) },
+    pub ghost of_slot: { (vacancy.state ≡ slot.now.turns.state) × (vacancy.at ≡ slot.now.turns.value) },
     pub ghost of_turn: { (vacancy.word ≡ turn_word (removed turn)) × (turn ≤ GREATEST_TURN) },
     pub ghost lent: { Within (logs_of J.posts) marked.loans },
     pub ghost named: { (name.log ≡ slot.now.turns.log) × (name.turn ≡ turn) × (name.value ≡ marked.value) },
     pub ghost of_cells: { slice_get (map (λ s. s.turns.log) cells.now.slots.items) index
         ≡ Some slot.now.turns.log },
+    pub ghost of_place: { slice_get (map (λ s. s.turns.at) cells.now.slots.items) index
+        ≡ Some slot.now.turns.at },
 }
 
 /// A value that came back, and its name. The room is that of the cell that it was in.
@@ -60,24 +64,23 @@ pub struct Returned<'c, J: PostSet, T> {
 
 impl<J: PostSet, T> LentSlot<J, T> {
     /// Makes an empty cell at turn 0, whose values lie in this place.
-    pub(crate) fn new(place: Place<T>, posts: &Posts<J>) -> LentSlot<J, T>
+    pub(crate) fn new(place: Place<Space<T>>, posts: &Posts<J>) -> LentSlot<J, T>
         ensures { result.turns.at ≡ place.at }
     {
-        LentSlot {
-            turns: Turns::new(place, posts.as_slice()),
-            set: Of(PhantomData),
-        }
+        let turns = Turns::new(place, posts.as_slice());
+        let set = Of(PhantomData);
+        LentSlot { turns, set }
     }
 
     // Claims the cell at its turn, if it is empty and not past `last_turn`, by one plain load and one exchange.
-    pub(crate) fn claim(&self, at: *const T, last_turn: u64) -> Option<(u64, TurnClaim<T>)>
+    pub(crate) fn claim(&self, at: CellAt<T>, last_turn: u64) -> Option<(u64, TurnClaim<T>)>
         requires { at ≡ self.now.turns.at }
         ensures of_place { IfSome result (λ gained. (gained.1.right ≡ 1) × (gained.1.state ≡ self.now.turns.state)
-            × (gained.1.at ≡ self.now.turns.at)) }
+            × (gained.1.at ≡ self.now.turns.value)) }
         ensures of_turn { IfSome result (λ gained. Awaits gained.0 gained.1.word × (gained.0 ≤ GREATEST_TURN)) }
         ensures within { IfSome result (λ gained. gained.0 ≤ last_turn) }
     {
-        let (found, which) = self.turns.find(0, 2);
+        let (found, which) = self.turns.find(at, 0, 2);
         which.done();
         let turn = turn_of(found);
         let vacant = vacant_word(turn);
@@ -92,20 +95,12 @@ impl<J: PostSet, T> LentSlot<J, T> {
         Some((turn, claim))
     }
 
-    /// Returns the turn and the name of the value that the cell has, by two plain loads. `None`: the cell is empty, or
-    /// its value was marked, or went out between the loads.
-    pub fn shown(&self) -> Option<(u64, TurnName<T>)>
-        ensures { IfSome result (λ shown. (shown.1.log ≡ self.now.turns.log) × (shown.1.turn ≡ shown.0)) }
-    {
-        self.turns.shown()
-    }
-
     /// Marks the value of this turn, by a plain load and one exchange, so that no look finds it from then on. The
     /// caller that marks it gets what was lent of it, and no other caller does. `None`: the cell has no value of this
     /// turn. It is this one of these cells, and others know it under this position.
     pub(crate) fn mark<'c>(
         &'c self,
-        at: *const T,
+        at: CellAt<T>,
         turn: u64,
         cells: &'c LendingCells<J, T>,
         index: usize,
@@ -114,40 +109,41 @@ impl<J: PostSet, T> LentSlot<J, T> {
         requires at { at ≡ self.now.turns.at }
         requires of_cells { slice_get (map (λ s. s.turns.log) cells.now.slots.items) index
             ≡ Some self.now.turns.log }
+        requires of_place { slice_get (map (λ s. s.turns.at) cells.now.slots.items) index
+            ≡ Some self.now.turns.at }
         ensures { IfSome result (λ removal. (removal.name.log ≡ self.now.turns.log) × (removal.name.turn ≡ turn)) }
     {
         if turn > GREATEST_TURN {
             return None;
         }
         let shown = shown_word(turn);
-        let (found, which) = self.turns.find(turn, shown);
+        let (found, which) = self.turns.find(at, turn, shown);
         if found != shown {
             which.done();
             return None;
         }
         let name = which.name();
         let (again, marked, vacancy) = self.turns.mark(&name, at, shown, removed_word(turn));
-        if again == shown {
-            Some(SlotRemoval {
-                cells,
-                slot: self,
-                index,
-                position,
-                marked,
-                vacancy,
-                name,
-                turn,
-            })
-        } else {
+        if again != shown {
             marked.done();
             vacancy.done();
-            None
+            return None;
         }
+        Some(SlotRemoval {
+            cells,
+            slot: self,
+            index,
+            position,
+            marked,
+            vacancy,
+            name,
+            turn,
+        })
     }
 
     // Ends the cell, which nobody shares any more, and returns the room of its place. `None`: a value is in it, or room
     // that was taken has not come back.
-    pub(crate) fn end(self, at: *const T) -> Option<TurnClaim<T>>
+    pub(crate) fn end(self, at: CellAt<T>) -> Option<TurnClaim<Space<T>>>
         requires { at ≡ self.turns.at }
         ensures { IfSome result (λ claim. (claim.right ≡ 1) × (claim.at ≡ at)) }
     {

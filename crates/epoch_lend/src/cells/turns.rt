@@ -19,10 +19,21 @@ use std::sync::atomic::raw;
 /// The greatest last turn of a cell: the word of the turn after it is the greatest multiple of 4 that fits.
 pub const GREATEST_TURN: u64 = 0x3fff_ffff_ffff_fffe;
 
-/// The word: four times the turn, and the state. 0: vacant. 1: claimed, while a value is placed. 2: shown to guards.
-/// 3: removed, until the value is out.
-pub struct Turns<T> {
+/// The memory of a cell: its word, and room for a value beside it. There is no value of this type.
+pub struct Space<T> {
     word: u64,
+    value: T,
+}
+
+/// Where the memory of a cell is.
+pub type CellAt<T> = *const Space<T>;
+
+/// The turns of a cell. It has no bytes: clauses tell where the cell's word and its value lie.
+///
+/// The word is four times the turn, and the state. 0: vacant. 1: claimed, while a value is placed. 2: shown to guards.
+/// 3: removed, until the value is out.
+#[derive(Drop)]
+pub struct Turns<T> {
     marker: PhantomData<T>,
 }
 
@@ -31,11 +42,11 @@ impl<T> Owns for Turns<T> {
 
     ghost coded = { turn_names_coded };
 
-    ghost shr_at = { λ d p κ. turns_share T.row d p κ };
+    ghost shr_at = { λ d p κ. turns_share T.row d κ };
 }
 
 impl<T> Move for Turns<T> {
-    ghost own_val = { λ d vs. turns_own T.row d (λ n. Fields.own_val (record { word = n; marker = record {} }) vs) };
+    ghost own_val = { λ d vs. turns_own T.row d (Fields.own_val (record { marker = record {} }) vs) };
 }
 
 /// A place in memory with room for one value.
@@ -121,38 +132,43 @@ impl<T> Model for Found<T> {
 
 impl<T> Turns<T> {
     /// Makes the place vacant at turn 0. Guards of these posts may look at its values.
-    pub fn new(place: Place<T>, posts: &[Post]) -> Turns<T>
+    pub fn new(place: Place<Space<T>>, posts: &[Post]) -> Turns<T>
         ensures { (result.posts ≡ logs_of posts.now) × (result.at ≡ place.at) }
     {
         let _ = posts;
-        let Place { at: _ } = place;
+        let Place { at } = place;
+        unsafe {
+            let word = &raw const (*at).word as *mut u64;
+            word.write(0);
+        }
         Turns {
-            word: 0,
             marker: PhantomData,
         }
     }
 
     /// Claims the place at this turn, by one exchange. Of several claims one succeeds, and none if the word is another.
-    pub fn claim(&self, at: *const T, turn: u64, before: u64, after: u64) -> (u64, TurnClaim<T>)
+    pub fn claim(&self, at: CellAt<T>, turn: u64, before: u64, after: u64) -> (u64, TurnClaim<T>)
         requires { (at ≡ self.now.at) × (before ≡ turn_word (vacant turn)) × (after ≡ turn_word (claimed turn)) }
         ensures { (result.0 ≡ before → result.1.right ≡ 1) × (result.0 ≢ before → result.1.right ≡ 0)
-            × (result.1.state ≡ self.now.state) × (result.1.word ≡ after) × (result.1.at ≡ self.now.at) }
+            × (result.1.state ≡ self.now.state) × (result.1.word ≡ after) × (result.1.at ≡ self.now.value) }
     {
         let _ = turn;
-        let found = unsafe { exchange::<Brand>(&raw const self.word, before, after) };
+        let found = unsafe { exchange::<Brand>(&raw const (*at).word, before, after) };
+        let at = unsafe { &raw const (*at).value };
         let claim = TurnClaim { at };
         (found, claim)
     }
 
     /// Shows the value of a place to guards, by one store of the word, and returns its name. The caller has claimed the
     /// place at this turn, or has taken the value of the turn before out of it.
-    pub fn show(&self, filled: Filled<T>, turn: u64, word: u64) -> TurnName<T>
-        requires of_place { (filled.state ≡ self.now.state) × (filled.at ≡ self.now.at) }
+    pub fn show(&self, at: CellAt<T>, filled: Filled<T>, turn: u64, word: u64) -> TurnName<T>
+        requires at { at ≡ self.now.at }
+        requires of_place { (filled.state ≡ self.now.state) × (filled.at ≡ self.now.value) }
         requires of_turn { Awaits turn filled.word × (word ≡ turn_word (shown turn)) }
         ensures { (result.turn ≡ turn) × (result.log ≡ self.now.log) × (result.value ≡ filled.value) }
     {
         let Filled { at: _ } = filled;
-        unsafe { raw::store::<Brand>(&raw const self.word, word, SeqCst) };
+        unsafe { raw::store::<Brand>(&raw const (*at).word, word, SeqCst) };
         TurnName {
             turn,
             marker: PhantomData,
@@ -160,14 +176,14 @@ impl<T> Turns<T> {
     }
 
     /// Looks at the word, by one plain load. If it is that of a value shown at this turn, returns which value that is.
-    pub fn find(&self, turn: u64, word: u64) -> (u64, Found<T>)
-        requires { word ≡ turn_word (shown turn) }
+    pub fn find(&self, at: CellAt<T>, turn: u64, word: u64) -> (u64, Found<T>)
+        requires { (at ≡ self.now.at) × (word ≡ turn_word (shown turn)) }
         // A load that finds the word of a value shown at a turn tells which value was placed at this turn.
         ensures { (result.0 ≡ word → result.1.right ≡ 1) × (result.0 ≢ word → result.1.right ≡ 0)
             × (result.1.log ≡ self.now.log) × (result.1.turn ≡ turn) }
     {
         let _ = word;
-        let found = unsafe { raw::load::<Brand>(&raw const self.word, SeqCst) };
+        let found = unsafe { raw::load::<Brand>(&raw const (*at).word, SeqCst) };
         let which = Found {
             turn,
             marker: PhantomData,
@@ -182,7 +198,7 @@ impl<T> Turns<T> {
         &self,
         turn: u64,
         guard: &'g PostGuard,
-        at: *const T,
+        at: CellAt<T>,
         word: u64,
     ) -> (u64, Found<T>, Glance<'g, T>)
         requires { (at ≡ self.now.at) × (word ≡ turn_word (shown turn)) × IsAmong guard.now.log self.now.posts }
@@ -192,11 +208,12 @@ impl<T> Turns<T> {
     {
         let _ = guard;
         let _ = word;
-        let found = unsafe { raw::load::<Brand>(&raw const self.word, SeqCst) };
+        let found = unsafe { raw::load::<Brand>(&raw const (*at).word, SeqCst) };
         let which = Found {
             turn,
             marker: PhantomData,
         };
+        let at = unsafe { &raw const (*at).value };
         let glance = Glance {
             at,
             marker: PhantomData,
@@ -209,7 +226,7 @@ impl<T> Turns<T> {
     pub fn mark(
         &self,
         name: &TurnName<T>,
-        at: *const T,
+        at: CellAt<T>,
         before: u64,
         after: u64,
     ) -> (u64, Marked<T>, Vacancy<T>)
@@ -222,31 +239,36 @@ impl<T> Turns<T> {
         ensures marked { (result.1.value ≡ name.now.value) × (result.1.lifetime ≡ name.now.lifetime)
             × (result.1.seen ≡ []) × Within self.now.posts result.1.loans }
         ensures vacancy { (result.2.value ≡ name.now.value) × (result.2.lifetime ≡ name.now.lifetime)
-            × (result.2.state ≡ self.now.state) × (result.2.word ≡ after) × (result.2.at ≡ self.now.at) }
+            × (result.2.state ≡ self.now.state) × (result.2.word ≡ after)
+            × (result.2.at ≡ self.now.value) }
     {
         let _ = name;
-        let found = unsafe { exchange::<Brand>(&raw const self.word, before, after) };
+        let found = unsafe { exchange::<Brand>(&raw const (*at).word, before, after) };
+        let at = unsafe { &raw const (*at).value };
         (found, Marked { at }, Vacancy { at })
     }
 
     /// Makes the place vacant at this turn, by one store of the word. The caller has claimed the place at this turn, or
     /// has taken the value of the turn before out of it.
-    pub fn release(&self, claim: TurnClaim<T>, turn: u64, word: u64)
-        requires of_place { (claim.right ≡ 1) × (claim.state ≡ self.now.state) × (claim.at ≡ self.now.at) }
+    pub fn release(&self, at: CellAt<T>, claim: TurnClaim<T>, turn: u64, word: u64)
+        requires at { at ≡ self.now.at }
+        requires of_place { (claim.right ≡ 1) × (claim.state ≡ self.now.state)
+            × (claim.at ≡ self.now.value) }
         requires of_turn { Awaits turn claim.word × (word ≡ turn_word (vacant turn)) }
     {
         let TurnClaim { at: _ } = claim;
         let _ = turn;
-        unsafe { raw::store::<Brand>(&raw const self.word, word, SeqCst) };
+        unsafe { raw::store::<Brand>(&raw const (*at).word, word, SeqCst) };
     }
 
     /// Ends the word, which nobody shares any more. Returns it and, if it is that of a vacant place, the place.
-    pub fn end(self, at: *const T) -> (u64, TurnClaim<T>)
+    pub fn end(self, at: CellAt<T>) -> (u64, TurnClaim<Space<T>>)
         requires { at ≡ self.at }
         ensures vacant { (turn : ℕ) → result.0 ≡ turn_word (vacant turn) → result.1.right ≡ 1 }
         ensures at { result.1.at ≡ self.at }
     {
-        let Self { word, marker: _ } = self;
+        let Self { marker: _ } = self;
+        let word = unsafe { (*at).word };
         (word, TurnClaim { at })
     }
 }
@@ -342,12 +364,6 @@ impl<T> Filled<T> {
         let Filled { at } = self;
         let value = unsafe { at.read() };
         (TurnClaim { at }, value)
-    }
-}
-
-impl<T> Drop for Turns<T> {
-    fn drop(self) {
-        let Self { word: _, marker: _ } = self;
     }
 }
 

@@ -18,3 +18,10 @@ collect-requires-clause-watched g c =
     let same : c.unpinned-is_clear.result.1.loans ≡ mine ++ rest = c.unpinned-is_clear.ensures.same ∙
     c.add-marked.ensures.0 ∙ ap (λ m. m.loans ++ rest) (sym c.add-marked.ensures.2) in
     subst (AreWatched mine) (sym same) (watched_these mine rest)
+
+-- what is left has its place
+pub returns : goal.returns
+returns g c = (
+  c.end-word-2.ensures.vacant 1 (c.if-word-vacant_word-2.false ∙ c.vacant_word-3.ensures),
+  c.end-word-2.ensures.at ∙ sym c.requires,
+)

@@ -7,8 +7,8 @@ use Rattle.epoch_lend.proofs.Places.{one_less}
 use Rattle.epoch_lend.proofs.array.set_once.SetOnce.drop.Goals as goal
 
 -- src/array/set_once.rt:240:19
-pub end-requires : goal.end-requires
-end-requires g c =
+pub end-claim-requires : goal.end-claim-requires
+end-claim-requires g c =
     let base : Ptr = c.args.self.base in
     let stride : ℕ = c.places.block.stride in
     let rest = c.pop.new.self.items in

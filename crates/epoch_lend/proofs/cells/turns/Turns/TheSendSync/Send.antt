@@ -8,9 +8,9 @@ pub send : (T : RattleType) → IsSend T → IsSync T → IsSend (the_row T)
 send T s y = record {
   owned = λ d vs. (
     (λ _. tt),
-    λ n. (
-      (λ vss. (tt, ((tt, tt), ((λ uss. (tt, tt)), tt)))),
-      turns_keyless T s y d n,
+    (
+      (λ vss. (tt, ((λ uss. (tt, tt)), tt))),
+      ((λ _. tt), ((λ n. (tt, turns_keyless T s y d n)), ((tt, (tt, tt)), tt))),
     ),
   );
   leaving = λ k d w. tt;

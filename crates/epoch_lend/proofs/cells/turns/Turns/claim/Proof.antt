@@ -1,17 +1,18 @@
 -- `claim` is one compare-exchange, which takes the place where it was vacant.
-use Rattle.std.proofs.Common.{◌≡◌, ◌≢◌, ℕ, ◌+◌, ◌*◌, ◌^◌, List, [], ◌∷◌, ◌++◌, sym, refl, ◌∙◌}
+use Rattle.std.proofs.Common.{◌≡◌, ◌≢◌, ℕ, ◌+◌, ◌*◌, ◌^◌, List, [], ◌∷◌, ◌++◌, sym, refl, ◌∙◌, ap}
 use Rattle.std.proofs.Common.{subst, w64}
 use mir.Syntax.{a_type, named}
 use mir.Val.{Val, vint, vptr, vstruct, of_list}
 use mir.MapTy.{inst_fn}
 use prog.Atomic.{either}
-use base.Logic.{SProp, ent, sep, wand, emp, via, apply∗}
+use base.Logic.{SProp, ent, sep, wand, emp, via, apply∗, id⊢}
 use base.Fml.{Lft, Share, Fml, ftrue, fsep, feq, flft, fbor}
 use types.Logic.{sem}
-use types.Kit.{‵, raw, ◌⊛◌, some, given, later, mean, at_ret, ◌$◌, ◌∵◌, !, qed, by, move, keep, split, join}
+use types.Kit.{‵, raw, ◌⊛◌, some, given, later, mean, at_ret, ◌$◌}
+use types.Kit.{◌∵◌, !, qed, by, move, keep, split, join, drop, suffices}
 use types.Kit.{fsplit, fjoin, fjoin3, fpick, fpack, pick, learn, use0, use1, use2, use3, await, rewrite, feq_i, flt_i}
 use types.Run.{stop, fld, addr, of_opd, no_more, and_then, first, blocks, exec, Calls-last, returns, enter}
-use types.ByLocal.{alloc_all, pass_all, free_all, look_at, get, through, sets, lands_last, env}
+use types.ByLocal.{alloc_all, pass_all, free_all, look_at, get, through, sets, sets_last, lands_last, env}
 use types.Part.{agg}
 use contract.Running.{tables}
 use contract.Monad.{fact, fact_i}
@@ -19,7 +20,7 @@ use contract.Shared.{Lends-one}
 use denote.Exit.{yes}
 use denote.RattleType.{RattleType, Valss, owns}
 use denote.Signature.{types_at, plain}
-use denote.RawPtr.{Ptr, RawPtr, block_ptr, ptr_val, rawptr_vals, rawptr_Tells}
+use denote.RawPtr.{Ptr, RawPtr, block_ptr, ptr_val, rawptr_vals, rawptr_Tells, block_of, count_of, at_block}
 use denote.Steps.{nothing, heard}
 use denote.Opens.{unhide}
 use denote.Param.{param, layouts}
@@ -32,9 +33,10 @@ use Rattle.core.proofs.atomic.Steps.{tail}
 use Rattle.core.specs.Sync.RawAtomic.{asks, always}
 use Rattle.atomic_table.proofs.Walks.{proved, leaves}
 use Rattle.atomic_table.proofs.Calls.{fm, found, finds, exchanges}
-use Rattle.epoch_lend.proofs.Fields.{ptr_typed, pair_of}
+use prog.Wp.{WpFn}
+use Rattle.epoch_lend.proofs.Fields.{pair_of}
 use Rattle.epoch_lend.proofs.Fields.{word, word_typed, marked_typed}
-use Rattle.epoch_lend.specs.Turning.{TurnNames, claim_of}
+use Rattle.epoch_lend.specs.Turning.{TurnNames, claim_of, value_in}
 use Rattle.epoch_lend.specs.contracts.cells.turns.Turns as turns_is
 use Rattle.epoch_lend.specs.contracts.cells.turns.TurnClaim as claim_is
 use Rattle.epoch_lend.specs.contracts.cells.turns.TurnName as name_is
@@ -94,18 +96,20 @@ claim_spec 𝓤 𝓛 𝓜 𝓡 wired X L =
     (λ κs. (shr_vals, (rawptr_vals, (uint_vals w64, (uint_vals w64, (uint_vals w64, tt))))))
     (λ κs. (shr_Tells (named 0) κs.0 Row, (rawptr_Tells, (uint_Tells w64, (uint_Tells w64, (uint_Tells w64, tt))))))
     (λ κs qs bounds a gh are.
-    let b : ℕ = a.0.ref_ptr.0 in
-    let o : ℕ = a.0.ref_ptr.1 in
+    let rp : ℕ × ℕ = a.0.ref_ptr in
     let κ : Lft = κs.0 in
     let q : Share = qs.0 in
     let d : TurnNames = a.0.now in
+    let b : ℕ = block_of d.at in
+    let o : ℕ = count_of d.at in
+    let x : Ptr = value_in R (block_ptr b o) in
     let p : Ptr = a.1.0 in
     let t : ℕ = a.1.1.0 in
     let old : ℕ = a.1.1.1.0 in
     let new : ℕ = a.1.1.1.1.0 in
     let Asked : Type 0 = (p ≡ d.at) × (old ≡ 4 * t) × (new ≡ 4 * t + 1) in
     let others : Fml = fsep (flft κs.1.0 qs.1.0) ftrue in
-    let us : List Val = vptr b o ∷ ptr_val p ∷ vint w64 t ∷ vint w64 old ∷ vint w64 new ∷ [] in
+    let us : List Val = vptr rp.0 rp.1 ∷ vptr b o ∷ vint w64 t ∷ vint w64 old ∷ vint w64 new ∷ [] in
     let y : (walk_of 𝓛 En hs c).Ghost = (
       (
         κs,
@@ -113,7 +117,7 @@ claim_spec 𝓤 𝓛 𝓜 𝓡 wired X L =
         bounds,
         a,
         (
-          vptr b o ∷ [],
+          vptr rp.0 rp.1 ∷ [],
           (
             ptr_val p ∷ [],
             (
@@ -130,14 +134,19 @@ claim_spec 𝓤 𝓛 𝓜 𝓡 wired X L =
       gh,
     ) in
     let Post : Val → SProp 𝓤 = (walk_of 𝓛 En hs c).post y in
+    let Run : List Val → SProp 𝓤 = λ ws. WpFn 𝓤 H 𝓣.C 𝓣.Λ fn ws Post in
     qed 𝓛 (((‵ (flft κ q) ⊛ ‵ others) ⊛ ‵ (owns (types_at En.signature.params κs) a y.0.4)) ∷ raw (fact 𝓤 _) ∷ raw
     (fact 𝓤 Asked) ∷ []) ∵
     keep ! (2 ∷ 0 ∷ []) $ heard ! Asked (λ asked. split ! $ split ! $ move ! (2 ∷ []) $ fsplit ! $ fsplit ! $
-    keep ! (1 ∷ 3 ∷ 4 ∷ []) $
+    keep ! (1 ∷ 3 ∷ 4 ∷ []) $ unhide ! $ fsplit ! $ fpick ! (λ inb. drop ! $
+    let there : d.at ≡ block_ptr b o = at_block d.at inb.0 in
+    let inside : value_in R d.at ≡ x = ap (value_in R) there in
+    suffices ! (Run us) (subst (λ (u : Ptr). ent 𝓤 (Run us) (Run (vptr rp.0 rp.1 ∷ ptr_val u ∷ vint w64 t ∷ vint w64 old
+    ∷ vint w64 new ∷ []))) (sym (asked.0 ∙ there)) (id⊢ 𝓤 (Run us))) $
     enter ! 𝓣.C 𝓣.Λ fn us Post $ alloc_all ! (λ l. pass_all ! refl (
       (tt, tt),
       (
-        ptr_typed p,
+        (tt, tt),
         (
           (
             tt,
@@ -151,7 +160,7 @@ claim_spec 𝓤 𝓛 𝓜 𝓡 wired X L =
       ),
     ) $
     let Ev = env fn.locals l in
-    unhide ! $ fpick ! (λ α. fsplit ! $ move ! (0 ∷ 2 ∷ []) $
+    fpick ! (λ α. fsplit ! $ move ! (0 ∷ 2 ∷ []) $
     use2 𝓛 (later (some (λ (s : Share). ‵ (flft α s) ⊛ raw (wand 𝓤 (𝓛.A.lft α s) (H.⇛ (𝓛.A.lft κ q)))))) (Lends-one 𝓛
     𝓜 𝓡
     κ α q) $ await ! tt $ pick ! (λ s. split ! $
@@ -172,29 +181,33 @@ claim_spec 𝓤 𝓛 𝓜 𝓡 wired X L =
     (no_more !)))) (λ u. finds ! after (λ n fits.
     lands_last ! refl (tt, record { fits = fits }) $ exec ! 𝓣.C 𝓣.Λ Ev (tail fn.body) (at_ret Ev Post) $
     sets ! (of_opd ! (get ! refl)) refl (tt, record { fits = fits }) $
-    sets ! (agg ! (and_then ! (get ! refl) (no_more !))) refl (word_typed p) $
-    sets ! (agg ! (and_then ! (get ! refl) (and_then ! (get ! refl) (no_more !)))) refl (marked_typed p n fits) $
+    first ! $ blocks ! $ sets_last ! (addr ! (through ! refl (fld ! refl (stop !)))) refl (tt, tt) $
+    exec ! 𝓣.C 𝓣.Λ Ev (tail (tail (tail fn.body))) (at_ret Ev Post) $
+    sets ! (of_opd ! (get ! refl)) refl (tt, tt) $
+    sets ! (agg ! (and_then ! (get ! refl) (no_more !))) refl (word_typed x) $
+    sets ! (agg ! (and_then ! (get ! refl) (and_then ! (get ! refl) (no_more !)))) refl (marked_typed x n fits) $
     fsplit ! $ move ! (0 ∷ 2 ∷ []) $ use2 𝓛 (later (‵ (flft κ q))) (apply∗ 𝓤 (𝓛.A.lft α s) (H.⇛ (𝓛.A.lft κ q))) $
     await ! tt $
     move ! (0 ∷ 2 ∷ []) $ join ! $ move ! (1 ∷ []) $
-    use1 𝓛 (some (λ (k : ℕ). given (steps.Gains 𝓛 R d (4 * t) n k) (‵ (claim_of R d.at d.state (4 * t + 1) k))))
+    use1 𝓛 (some (λ (k : ℕ). given (steps.Gains 𝓛 R d (4 * t) n k) (‵ (claim_of R (value_in R d.at) d.state (4 * t +
+    1) k))))
     (steps.gains 𝓛 R d t n) $ pick ! (λ k. learn ! (λ so.
-    rewrite ! 0 (λ (z : Ptr × ℕ). ‵ (claim_of R z.0 d.state z.1 k)) (λ i. (sym asked.0 i, sym asked.2 i)) refl $
-    let h : Cr.Denot = record { at = p; right = k; state = d.state; word = new } in
-    let v : Val = pair_of n (word p) in
-    let Told : Type 0 = (n ≡ old → k ≡ 1) × (n ≢ old → k ≡ 0) × (d.state ≡ d.state) × (new ≡ new) × (p ≡ d.at) in
-    use0 𝓛 (‵ ((fields.Claim R).own_val (p, tt) (word p ∷ []))) (fields.claim_made R 𝓛 p) $ fjoin ! $ nothing ! $
+    rewrite ! 0 (λ (z : Ptr × ℕ). ‵ (claim_of R z.0 d.state z.1 k)) (λ i. (inside i, sym asked.2 i)) refl $
+    let h : Cr.Denot = record { at = x; right = k; state = d.state; word = new } in
+    let v : Val = pair_of n (word x) in
+    let Told : Type 0 = (n ≡ old → k ≡ 1) × (n ≢ old → k ≡ 0) × (d.state ≡ d.state) × (new ≡ new) × (x ≡ d.value) in
+    use0 𝓛 (‵ ((fields.Claim R).own_val (x, tt) (word x ∷ []))) (fields.claim_made R 𝓛 x) $ fjoin ! $ nothing ! $
     flt_i ! n (2 ^ 64) fits $ feq_i ! (List Val) (vint w64 n ∷ []) (vint w64 n ∷ []) refl $ fjoin ! $
     move ! (0 ∷ 2 ∷ 1 ∷ []) $ fjoin3 ! $ feq_i ! (List Val) (v ∷ []) (v ∷ []) refl $ fjoin ! $
     fpack ! (Valss (u64 ∷ Cr ∷ [])) (λ uss. fsep (feq (List Val) (v ∷ []) (vstruct (of_list (uss.0 ++ (uss.1.0 ++
-    []))) ∷ [])) (owns (u64 ∷ Cr ∷ []) (n, (h, tt)) uss)) (vint w64 n ∷ [], (word p ∷ [], tt)) $
+    []))) ∷ [])) (owns (u64 ∷ Cr ∷ []) (n, (h, tt)) uss)) (vint w64 n ∷ [], (word x ∷ [], tt)) $
     use0 𝓛 (raw (fact 𝓤 Told)) (fact_i 𝓤 Told (emp 𝓤) (
       (λ e. so.0 (e ∙ asked.1)),
       (λ ne. so.1 (λ e. ne (e ∙ sym asked.1))),
       refl,
       refl,
-      asked.0,
+      sym inside ∙ sym inb.1,
     )) $ nothing ! $ nothing ! $ fjoin ! $ nothing ! $ fjoin ! $ nothing ! $ fjoin ! $ nothing ! $ fjoin ! $ nothing !
     $ fjoin ! $
     returns ! (look_at ! 0 refl) $ free_all ! refl $ keep ! (3 ∷ 0 ∷ 2 ∷ 1 ∷ []) $
-    by ! (leaves 𝓛 En hs c y v (n, h) (tt, (tt, (tt, (tt, (tt, tt))))) (tt, (tt, (tt, (tt, (tt, tt)))))))))))))))
+    by ! (leaves 𝓛 En hs c y v (n, h) (tt, (tt, (tt, (tt, (tt, tt))))) (tt, (tt, (tt, (tt, (tt, tt))))))))))))))))

@@ -1,18 +1,19 @@
 -- `look` is one plain load, and what it answers has what it gained.
-use Rattle.std.proofs.Common.{◌≡◌, ◌≢◌, ℕ, ◌+◌, ◌*◌, ◌^◌, List, [], ◌∷◌, ◌++◌, sym, refl, ◌∙◌}
+use Rattle.std.proofs.Common.{◌≡◌, ◌≢◌, ℕ, ◌+◌, ◌*◌, ◌^◌, List, [], ◌∷◌, ◌++◌, sym, refl, ◌∙◌, subst, ap}
 use Rattle.std.proofs.Common.{lit<, w64}
 use Rattle.std.specs.Prelude.{Option}
 use mir.Syntax.{a_type, named}
 use mir.Val.{Val, vint, vptr, vstruct, of_list}
 use mir.MapTy.{inst_fn}
-use base.Logic.{SProp, wand, emp, via, apply∗}
+use base.Logic.{SProp, wand, emp, via, apply∗, ent, id⊢}
 use base.Fml.{Lft, Share, Fml, ftrue, fsep, feq, flft, fobor, fhide}
 use base.Before.{before}
-use types.Kit.{‵, raw, ◌⊛◌, some, given, later, mean, at_ret, ◌$◌, ◌∵◌, !, qed, by, move, keep, drop, split, split3}
+use types.Kit.{‵, raw, ◌⊛◌, some, given, later, mean, at_ret, ◌$◌}
+use types.Kit.{◌∵◌, !, qed, by, move, keep, drop, split, split3, suffices}
 use types.Kit.{join}
 use types.Kit.{fsplit, fjoin, fpick, fpack, pick, learn, use0, use1, use2, use3, await, rewrite, feq_i, flt_i}
 use types.Run.{stop, fld, addr, lit, of_opd, no_more, and_then, first, blocks, exec, Calls-last, returns, enter}
-use types.ByLocal.{alloc_all, pass_all, free_all, look_at, get, through, sets, lands_last, env}
+use types.ByLocal.{alloc_all, pass_all, free_all, look_at, get, through, sets, sets_last, lands_last, env}
 use types.Part.{agg}
 use types.Na.{before_dup}
 use contract.Running.{tables}
@@ -21,7 +22,7 @@ use contract.Shared.{Lends-one}
 use denote.Exit.{yes}
 use denote.RattleType.{RattleType, Valss, owns}
 use denote.Signature.{types_at, plain, named_lft}
-use denote.RawPtr.{Ptr, RawPtr, block_ptr, ptr_val, rawptr_vals, rawptr_Tells}
+use denote.RawPtr.{Ptr, RawPtr, block_ptr, ptr_val, rawptr_vals, rawptr_Tells, block_of, count_of, at_block}
 use denote.Steps.{nothing, heard}
 use denote.Opens.{unhide}
 use denote.Memory.{hidden_shr}
@@ -36,13 +37,14 @@ use Rattle.core.proofs.atomic.Steps.{tail}
 use Rattle.core.specs.contracts.marker.PhantomData as marker
 use Rattle.atomic_table.proofs.Walks.{proved, leaves}
 use Rattle.atomic_table.proofs.Calls.{fm, seq_cst, found, finds, loads}
+use prog.Wp.{WpFn}
 use Rattle.epoch_lend.specs.Posts.{guard_shares, IsAmong}
 use Rattle.epoch_lend.specs.Loans.{glance_owns, pocket}
-use Rattle.epoch_lend.proofs.Fields.{Token, hand_of, hand_typed, ptr_typed, Words, hand_made}
+use Rattle.epoch_lend.proofs.Fields.{Token, hand_of, hand_typed, Words, hand_made}
 use Rattle.epoch_lend.proofs.Reading as reading
 use Rattle.epoch_lend.specs.contracts.post.PostGuard as lent_guard
 use Rattle.epoch_lend.specs.contracts.lending.Glance as glance
-use Rattle.epoch_lend.specs.Turning.{TurnNames, found_of}
+use Rattle.epoch_lend.specs.Turning.{TurnNames, found_of, value_in}
 use Rattle.epoch_lend.specs.contracts.cells.turns.Turns as turns_is
 use Rattle.epoch_lend.specs.contracts.cells.turns.Found as found_is
 use Rattle.epoch_lend.proofs.TurnFields as fields
@@ -93,11 +95,13 @@ look_spec 𝓤 𝓛 𝓜 𝓡 wired X L =
         (shr_Tells (named 1) κs.1.0 lent_guard.the_row, (rawptr_Tells, (uint_Tells w64, tt))),
       ),
     )) (λ κs qs bounds a gh are.
-    let b : ℕ = a.0.ref_ptr.0 in
-    let o : ℕ = a.0.ref_ptr.1 in
+    let rp : ℕ × ℕ = a.0.ref_ptr in
     let κ : Lft = κs.0 in
     let q : Share = qs.0 in
     let d : TurnNames = a.0.now in
+    let b : ℕ = block_of d.at in
+    let o : ℕ = count_of d.at in
+    let x : Ptr = value_in R (block_ptr b o) in
     let t : ℕ = a.1.0 in
     let pb : ℕ = a.1.1.0.ref_ptr.0 in
     let po : ℕ = a.1.1.0.ref_ptr.1 in
@@ -114,28 +118,34 @@ look_spec 𝓤 𝓛 𝓜 𝓡 wired X L =
     let others : Fml = fsep (flft κs.1.1.0 qs.1.1.0) ftrue in
     let ℓ = named_lft 3 1 tt κs in
     let Hr : RattleType = glance.the_row ℓ R in
-    let us : List Val = vptr b o ∷ vint w64 t ∷ vptr pb po ∷ ptr_val p ∷ vint w64 w ∷ [] in
+    let us : List Val = vptr rp.0 rp.1 ∷ vint w64 t ∷ vptr pb po ∷ vptr b o ∷ vint w64 w ∷ [] in
     let y : (walk_of 𝓛 En hs c).Ghost = (
       (
         κs,
         qs,
         bounds,
         a,
-        (vptr b o ∷ [], (vint w64 t ∷ [], (vptr pb po ∷ [], (ptr_val p ∷ [], (vint w64 w ∷ [], tt))))),
+        (vptr rp.0 rp.1 ∷ [], (vint w64 t ∷ [], (vptr pb po ∷ [], (ptr_val p ∷ [], (vint w64 w ∷ [], tt))))),
       ),
       gh,
     ) in
     let Post : Val → SProp 𝓤 = (walk_of 𝓛 En hs c).post y in
+    let Run : List Val → SProp 𝓤 = λ ws. WpFn 𝓤 H 𝓣.C 𝓣.Λ fn ws Post in
     qed 𝓛 (((‵ (flft κ q) ⊛ ‵ (flft κg qg) ⊛ ‵ others) ⊛ ‵ (owns (types_at En.signature.params κs) a y.0.4)) ∷ raw
     (fact 𝓤 _) ∷ raw (fact 𝓤 Asked) ∷ []) ∵
     keep ! (2 ∷ 0 ∷ []) $ heard ! Asked (λ asked. split ! $ split3 ! $ move ! (3 ∷ []) $ fsplit ! $ fsplit ! $
     keep ! (2 ∷ 1 ∷ 3 ∷ 4 ∷ 5 ∷ []) $ fsplit ! $ drop ! $ fsplit ! $ fsplit ! $ keep ! (1 ∷ 3 ∷ 4 ∷ 5 ∷ 6 ∷ []) $
     -- [the guard; the place; κ; κg; the others]
+    move ! (1 ∷ []) $ unhide ! $ fsplit ! $ fpick ! (λ inb. drop ! $ move ! (1 ∷ 0 ∷ []) $
+    let there : d.at ≡ block_ptr b o = at_block d.at inb.0 in
+    let inside : value_in R d.at ≡ x = ap (value_in R) there in
+    suffices ! (Run us) (subst (λ (u : Ptr). ent 𝓤 (Run us) (Run (vptr rp.0 rp.1 ∷ vint w64 t ∷ vptr pb po ∷ ptr_val u ∷
+    vint w64 w ∷ []))) (sym (asked.0 ∙ there)) (id⊢ 𝓤 (Run us))) $
     enter ! 𝓣.C 𝓣.Λ fn us Post $ alloc_all ! (λ l. pass_all ! refl (
       (tt, tt),
       (
         (tt, record { fits = are.1.0.1 }),
-        ((tt, tt), (ptr_typed p, ((tt, record { fits = are.1.1.1.1.0.1 }), tt))),
+        ((tt, tt), ((tt, tt), ((tt, record { fits = are.1.1.1.1.0.1 }), tt))),
       ),
     ) $ let Ev = env fn.locals l in
     use1 𝓛 (‵ (hidden_shr Token κg (record {}, tt) pb po) ⊛ ‵ (fhide (guard_shares γ f η κg))) (lent_out 𝓛
@@ -150,7 +160,7 @@ look_spec 𝓤 𝓛 𝓜 𝓡 wired X L =
     use2 𝓛 (later (some (λ (pk : ℕ). ‵ (fobor (γ ∷ []) r (pocket pk)) ⊛ ‵ (reading.Offer 𝓛 γ f η r pk))))
     (reading.prepares 𝓛 γ f η r) $ await ! tt $ pick ! (λ pk. split ! $
     -- [the pocket; the offer; κg's way back; before; the place; κ; the others]
-    move ! (4 ∷ []) $ unhide ! $ fpick ! (λ α. fsplit ! $ move ! (0 ∷ 6 ∷ []) $
+    move ! (4 ∷ []) $ fpick ! (λ α. fsplit ! $ move ! (0 ∷ 6 ∷ []) $
     use2 𝓛 (later (some (λ (s : Share). ‵ (flft α s) ⊛ raw (wand 𝓤 (𝓛.A.lft α s) (H.⇛ (𝓛.A.lft κ q)))))) (Lends-one 𝓛
     𝓜 𝓡
     κ α q) $ await ! tt $ pick ! (λ s. split ! $
@@ -169,10 +179,13 @@ look_spec 𝓤 𝓛 𝓜 𝓡 wired X L =
     sets ! (agg ! (no_more !)) refl (tt, tt) $
     sets ! (agg ! (and_then ! (get ! refl) (and_then ! (get ! refl) (no_more !)))) refl
     (fields.name_typed t are.1.0.1) $
+    first ! $ blocks ! $ sets_last ! (addr ! (through ! refl (fld ! refl (stop !)))) refl (tt, tt) $
+    exec ! 𝓣.C 𝓣.Λ Ev (tail (tail (tail (tail (tail fn.body))))) (at_ret Ev Post) $
+    sets ! (of_opd ! (get ! refl)) refl (tt, tt) $
     sets ! (agg ! (no_more !)) refl (tt, tt) $
-    sets ! (agg ! (and_then ! (get ! refl) (and_then ! (get ! refl) (no_more !)))) refl (hand_typed p) $
+    sets ! (agg ! (and_then ! (get ! refl) (and_then ! (get ! refl) (no_more !)))) refl (hand_typed x) $
     sets ! (agg ! (and_then ! (get ! refl) (and_then ! (get ! refl) (and_then ! (get ! refl) (no_more !))))) refl
-    (fields.looked_typed p n t fits are.1.0.1) $
+    (fields.looked_typed x n t fits are.1.0.1) $
     -- [α and what was found; its way back; the pocket; κg's way back; before; the others]
     fsplit ! $ move ! (0 ∷ 2 ∷ []) $ use2 𝓛 (later (‵ (flft κ q))) (apply∗ 𝓤 (𝓛.A.lft α s) (H.⇛ (𝓛.A.lft κ q))) $
     await ! tt $ move ! (2 ∷ 1 ∷ []) $
@@ -184,9 +197,9 @@ look_spec 𝓤 𝓛 𝓜 𝓡 wired X L =
     move ! (0 ∷ 4 ∷ []) $ join ! $ move ! (2 ∷ 0 ∷ []) $ join ! $ move ! (1 ∷ 2 ∷ []) $
     -- [what was got; before; the tokens]
     use2 𝓛 (some (λ (g : ℕ × Option R.Denot × ℕ). given (steps.Gains 𝓛 R d (4 * t + 2) n g.0) (‵ (fsep (found_of R
-    d.log t g.2 g.1 g.0) (glance_owns κg R d.at g.1 g.0)))))
+    d.log t g.2 g.1 g.0) (glance_owns κg R (value_in R d.at) g.1 g.0)))))
     (seeing.gains 𝓛 R d LR.shr_laws t γ f η asked.2 r pk κg n) $ pick ! (λ g. learn ! (λ so.
-    rewrite ! 0 (λ (z : Ptr). ‵ (fsep (found_of R d.log t g.2 g.1 g.0) (glance_owns κg R z g.1 g.0))) (sym asked.0)
+    rewrite ! 0 (λ (z : Ptr). ‵ (fsep (found_of R d.log t g.2 g.1 g.0) (glance_owns κg R z g.1 g.0))) inside
     refl $ fsplit ! $
     let h : Fr.Denot = record {
       turn = t;
@@ -196,20 +209,20 @@ look_spec 𝓤 𝓛 𝓜 𝓡 wired X L =
       value = g.1;
       lifetime = g.2;
     } in
-    let z : Hr.Denot = record { at = p; marker = record {}; right = g.0; value = g.1 } in
-    let v : Val = fields.three_of n (fields.name_val t) (hand_of p) in
+    let z : Hr.Denot = record { at = x; marker = record {}; right = g.0; value = g.1 } in
+    let v : Val = fields.three_of n (fields.name_val t) (hand_of x) in
     let Told : Type 0 = (n ≡ w → (g.0 ≡ 1) × (g.0 ≡ 1)) × (n ≢ w → (g.0 ≡ 0) × (g.0 ≡ 0)) × (d.log ≡ d.log) × (t ≡ t)
     × (g.1 ≡ g.1) in
     use0 𝓛 (‵ ((fields.Found R).own_val (t, (record {}, tt)) (fields.name_val t ∷ []))) (fields.found_made R 𝓛 t
     are.1.0.1) $ fjoin ! $ move ! (1 ∷ []) $
-    use0 𝓛 (‵ ((Words ℓ R).own_val (p, (tt, tt)) (hand_of p ∷ []))) (hand_made ℓ R 𝓛 p) $ fjoin ! $ nothing ! $
+    use0 𝓛 (‵ ((Words ℓ R).own_val (x, (tt, tt)) (hand_of x ∷ []))) (hand_made ℓ R 𝓛 x) $ fjoin ! $ nothing ! $
     move ! (1 ∷ 0 ∷ []) $ fjoin ! $ move ! (1 ∷ 0 ∷ []) $ fjoin ! $
     flt_i ! n (2 ^ 64) fits $ feq_i ! (List Val) (vint w64 n ∷ []) (vint w64 n ∷ []) refl $ fjoin ! $
     fjoin ! $ feq_i ! (List Val) (v ∷ []) (v ∷ []) refl $ fjoin ! $
     fpack ! (Valss (u64 ∷ Fr ∷ Hr ∷ [])) (λ uss. fsep (feq (List Val) (v ∷ []) (vstruct (of_list (uss.0 ++ (uss.1.0 ++
     (uss.1.1.0 ++ [])))) ∷ [])) (owns (u64 ∷ Fr ∷ Hr ∷ []) (n, (h, (z, tt))) uss)) (
       vint w64 n ∷ [],
-      (fields.name_val t ∷ [], (hand_of p ∷ [], tt)),
+      (fields.name_val t ∷ [], (hand_of x ∷ [], tt)),
     ) $
     use0 𝓛 (raw (fact 𝓤 Told)) (fact_i 𝓤 Told (emp 𝓤) (
       (λ e. (so.0 (e ∙ asked.1), so.0 (e ∙ asked.1))),
@@ -220,4 +233,4 @@ look_spec 𝓤 𝓛 𝓜 𝓡 wired X L =
     )) $ nothing ! $ nothing ! $ fjoin ! $ nothing ! $ fjoin ! $ nothing ! $ fjoin ! $ nothing ! $ fjoin ! $
     nothing ! $ fjoin ! $
     returns ! (look_at ! 0 refl) $ free_all ! refl $ keep ! (3 ∷ 0 ∷ 2 ∷ 1 ∷ []) $
-    by ! (leaves 𝓛 En hs c y v (n, h, z) (tt, (tt, (tt, (tt, (tt, tt))))) (tt, (tt, (tt, (tt, (tt, tt)))))))))))))))))
+    by ! (leaves 𝓛 En hs c y v (n, h, z) (tt, (tt, (tt, (tt, (tt, tt))))) (tt, (tt, (tt, (tt, (tt, tt))))))))))))))))))

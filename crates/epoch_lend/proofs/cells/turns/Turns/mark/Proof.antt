@@ -1,19 +1,20 @@
 -- `mark` is one compare-exchange, which takes what the word held of its turn.
-use Rattle.std.proofs.Common.{◌≡◌, ◌≢◌, ℕ, ◌+◌, ◌*◌, ◌^◌, List, [], ◌∷◌, ◌++◌, sym, refl, ◌∙◌}
+use Rattle.std.proofs.Common.{◌≡◌, ◌≢◌, ℕ, ◌+◌, ◌*◌, ◌^◌, List, [], ◌∷◌, ◌++◌, sym, refl, ◌∙◌, ap}
 use Rattle.std.proofs.Common.{subst, w64}
 use Rattle.std.specs.Prelude.{Option, Some, None}
 use mir.Syntax.{a_type, named}
 use mir.Val.{Val, vint, vptr, vstruct, of_list}
 use mir.MapTy.{inst_fn}
 use prog.Atomic.{either}
-use base.Logic.{SProp, ent, sep, wand, emp, via, apply∗}
+use base.Logic.{SProp, ent, sep, wand, emp, via, apply∗, id⊢}
 use base.Fml.{Lft, Share, Fml, ftrue, fsep, feq, flft, fbor, fhide}
 use types.Logic.{sem}
-use types.Kit.{‵, raw, ◌⊛◌, some, given, later, mean, at_ret, ◌$◌, ◌∵◌, !, qed, by, move, keep, drop, split, split3}
+use types.Kit.{‵, raw, ◌⊛◌, some, given, later, mean, at_ret, ◌$◌}
+use types.Kit.{◌∵◌, !, qed, by, move, keep, drop, split, split3, suffices}
 use types.Kit.{join}
 use types.Kit.{fsplit, fjoin, fpick, fpack, pick, learn, use0, use1, use2, use3, await, rewrite, feq_i, flt_i}
 use types.Run.{stop, fld, addr, of_opd, no_more, and_then, first, blocks, exec, Calls-last, returns, enter}
-use types.ByLocal.{alloc_all, pass_all, free_all, look_at, get, through, sets, lands_last, env}
+use types.ByLocal.{alloc_all, pass_all, free_all, look_at, get, through, sets, sets_last, lands_last, env}
 use types.Part.{agg}
 use contract.Running.{tables}
 use contract.Monad.{fact, fact_i}
@@ -21,7 +22,7 @@ use contract.Shared.{Lends-one}
 use denote.Exit.{yes}
 use denote.RattleType.{RattleType, Valss, owns}
 use denote.Signature.{types_at, plain}
-use denote.RawPtr.{Ptr, RawPtr, block_ptr, ptr_val, rawptr_vals, rawptr_Tells}
+use denote.RawPtr.{Ptr, RawPtr, block_ptr, ptr_val, rawptr_vals, rawptr_Tells, block_of, count_of, at_block}
 use denote.Steps.{nothing, heard}
 use denote.Opens.{unhide}
 use denote.Memory.{hidden_shr}
@@ -37,11 +38,11 @@ use Rattle.core.specs.contracts.marker.PhantomData as marker
 use Rattle.core.specs.Sync.RawAtomic.{asks, always}
 use Rattle.atomic_table.proofs.Walks.{proved, leaves}
 use Rattle.atomic_table.proofs.Calls.{fm, found, finds, exchanges}
+use prog.Wp.{WpFn}
 use Rattle.epoch_lend.specs.Loans.{Loan, Within, marked_owns}
-use Rattle.epoch_lend.proofs.Fields.{ptr_typed}
 use Rattle.epoch_lend.proofs.Fields.{word, word_typed, Found, found_made}
 use Rattle.epoch_lend.specs.contracts.lending.Marked as marked_is
-use Rattle.epoch_lend.specs.Turning.{TurnNames, TurnOf, turn_is, turn_shares, vacancy_of}
+use Rattle.epoch_lend.specs.Turning.{TurnNames, TurnOf, turn_is, turn_shares, vacancy_of, value_in}
 use Rattle.epoch_lend.specs.contracts.cells.turns.Turns as turns_is
 use Rattle.epoch_lend.specs.contracts.cells.turns.TurnClaim as claim_is
 use Rattle.epoch_lend.specs.contracts.cells.turns.Vacancy as vacancy_is
@@ -117,11 +118,13 @@ mark_spec 𝓤 𝓛 𝓜 𝓡 wired X L =
         ),
       ),
     )) (λ κs qs bounds a gh are.
-    let b : ℕ = a.0.ref_ptr.0 in
-    let o : ℕ = a.0.ref_ptr.1 in
+    let rp : ℕ × ℕ = a.0.ref_ptr in
     let κ : Lft = κs.0 in
     let q : Share = qs.0 in
     let d : TurnNames = a.0.now in
+    let b : ℕ = block_of d.at in
+    let o : ℕ = count_of d.at in
+    let x : Ptr = value_in R (block_ptr b o) in
     let nb : ℕ = a.1.0.ref_ptr.0 in
     let no : ℕ = a.1.0.ref_ptr.1 in
     let κn : Lft = κs.1.0 in
@@ -135,7 +138,7 @@ mark_spec 𝓤 𝓛 𝓜 𝓡 wired X L =
     let others : Fml = fsep (flft κs.1.1.0 qs.1.1.0) ftrue in
     let Mr : RattleType = marked_is.the_row R in
     let Vr : RattleType = vacancy_is.the_row R in
-    let us : List Val = vptr b o ∷ vptr nb no ∷ ptr_val p ∷ vint w64 old ∷ vint w64 new ∷ [] in
+    let us : List Val = vptr rp.0 rp.1 ∷ vptr nb no ∷ vptr b o ∷ vint w64 old ∷ vint w64 new ∷ [] in
     let y : (walk_of 𝓛 En hs c).Ghost = (
       (
         κs,
@@ -143,7 +146,7 @@ mark_spec 𝓤 𝓛 𝓜 𝓡 wired X L =
         bounds,
         a,
         (
-          vptr b o ∷ [],
+          vptr rp.0 rp.1 ∷ [],
           (
             vptr nb no ∷ [],
             (
@@ -160,18 +163,24 @@ mark_spec 𝓤 𝓛 𝓜 𝓡 wired X L =
       gh,
     ) in
     let Post : Val → SProp 𝓤 = (walk_of 𝓛 En hs c).post y in
+    let Run : List Val → SProp 𝓤 = λ ws. WpFn 𝓤 H 𝓣.C 𝓣.Λ fn ws Post in
     qed 𝓛 (((‵ (flft κ q) ⊛ ‵ (flft κn qs.1.0) ⊛ ‵ others) ⊛ ‵ (owns (types_at En.signature.params κs) a y.0.4)) ∷ raw
     (fact 𝓤
     _) ∷ raw (fact 𝓤 Asked) ∷ []) ∵
     keep ! (2 ∷ 0 ∷ []) $ heard ! Asked (λ asked. split ! $ split3 ! $ move ! (3 ∷ []) $ fsplit ! $ fsplit ! $
     keep ! (2 ∷ 1 ∷ 3 ∷ 4 ∷ 5 ∷ []) $ fsplit ! $ fsplit ! $ keep ! (1 ∷ 3 ∷ 4 ∷ 5 ∷ 6 ∷ []) $
     -- [the name; the place; κ; κn; the others]
+    move ! (1 ∷ []) $ unhide ! $ fsplit ! $ fpick ! (λ inb. drop ! $ move ! (1 ∷ 0 ∷ []) $
+    let there : d.at ≡ block_ptr b o = at_block d.at inb.0 in
+    let inside : value_in R d.at ≡ x = ap (value_in R) there in
+    suffices ! (Run us) (subst (λ (u : Ptr). ent 𝓤 (Run us) (Run (vptr rp.0 rp.1 ∷ vptr nb no ∷ ptr_val u ∷ vint w64 old
+    ∷ vint w64 new ∷ []))) (sym (asked.0 ∙ there)) (id⊢ 𝓤 (Run us))) $
     enter ! 𝓣.C 𝓣.Λ fn us Post $ alloc_all ! (λ l. pass_all ! refl (
       (tt, tt),
       (
         (tt, tt),
         (
-          ptr_typed p,
+          (tt, tt),
           (
             (
               tt,
@@ -191,7 +200,7 @@ mark_spec 𝓤 𝓛 𝓜 𝓡 wired X L =
     (name_is.the_lent R) κn nm nb no)
     $ split ! $ drop ! $ unhide ! $
     rewrite ! 0 (λ (z : ℕ). ‵ (turn_is R z t e)) asked.1 refl $ move ! (1 ∷ []) $
-    unhide ! $ fpick ! (λ α. fsplit ! $ move ! (0 ∷ 3 ∷ []) $
+    fpick ! (λ α. fsplit ! $ move ! (0 ∷ 3 ∷ []) $
     use2 𝓛 (later (some (λ (s : Share). ‵ (flft α s) ⊛ raw (wand 𝓤 (𝓛.A.lft α s) (H.⇛ (𝓛.A.lft κ q)))))) (Lends-one 𝓛
     𝓜 𝓡
     κ α q) $ await ! tt $ pick ! (λ s. split ! $
@@ -211,29 +220,33 @@ mark_spec 𝓤 𝓛 𝓜 𝓡 wired X L =
     (no_more !)))) (λ u. finds ! after (λ n fits.
     lands_last ! refl (tt, record { fits = fits }) $ exec ! 𝓣.C 𝓣.Λ Ev (tail fn.body) (at_ret Ev Post) $
     sets ! (of_opd ! (get ! refl)) refl (tt, record { fits = fits }) $
-    sets ! (agg ! (and_then ! (get ! refl) (no_more !))) refl (word_typed p) $
-    sets ! (agg ! (and_then ! (get ! refl) (no_more !))) refl (word_typed p) $
+    first ! $ blocks ! $ sets_last ! (addr ! (through ! refl (fld ! refl (stop !)))) refl (tt, tt) $
+    exec ! 𝓣.C 𝓣.Λ Ev (tail (tail (tail fn.body))) (at_ret Ev Post) $
+    sets ! (of_opd ! (get ! refl)) refl (tt, tt) $
+    sets ! (agg ! (and_then ! (get ! refl) (no_more !))) refl (word_typed x) $
+    sets ! (agg ! (and_then ! (get ! refl) (no_more !))) refl (word_typed x) $
     sets ! (agg ! (and_then ! (get ! refl) (and_then ! (get ! refl) (and_then ! (get ! refl) (no_more !))))) refl
-    (fields.three_typed p n fits) $
+    (fields.three_typed x n fits) $
     fsplit ! $ move ! (0 ∷ 2 ∷ []) $ use2 𝓛 (later (‵ (flft κ q))) (apply∗ 𝓤 (𝓛.A.lft α s) (H.⇛ (𝓛.A.lft κ q))) $
     await ! tt $
     -- [κ; what the mark took out; κn; the others]
     move ! (2 ∷ 3 ∷ []) $ join ! $ move ! (1 ∷ 0 ∷ []) $ join ! $ move ! (1 ∷ []) $
     use1 𝓛 (some (λ (g : ℕ × List Loan). given (steps.Gains 𝓛 R d (4 * t + 2) n g.0 × Within d.posts g.1) (‵ (fsep
-    (marked_owns R d.at e.0 e.1 g.0 g.1 []) (vacancy_of R d.at d.state (4 * t + 3) e g.0))))) (steps.takes 𝓛 R d t e
+    (marked_owns R (value_in R d.at) e.0 e.1 g.0 g.1 []) (vacancy_of R (value_in R d.at) d.state (4 * t + 3) e
+    g.0))))) (steps.takes 𝓛 R d t e
     n) $
     pick ! (λ g. learn ! (λ so.
     rewrite ! 0 (λ (z : Ptr × ℕ). ‵ (fsep (marked_owns R z.0 e.0 e.1 g.0 g.1 []) (vacancy_of R z.0 d.state z.1 e
     g.0))) (λ i.
-    (sym asked.0 i, sym asked.3 i)) refl $ fsplit ! $
-    let h : Mr.Denot = record { at = p; right = g.0; value = e.0; lifetime = e.1; seen = []; loans = g.1 } in
-    let z : Vr.Denot = record { at = p; right = g.0; state = d.state; word = new; value = e.0; lifetime = e.1 } in
-    let v : Val = fields.three_of n (word p) (word p) in
+    (inside i, sym asked.3 i)) refl $ fsplit ! $
+    let h : Mr.Denot = record { at = x; right = g.0; value = e.0; lifetime = e.1; seen = []; loans = g.1 } in
+    let z : Vr.Denot = record { at = x; right = g.0; state = d.state; word = new; value = e.0; lifetime = e.1 } in
+    let v : Val = fields.three_of n (word x) (word x) in
     let Gained : Type 0 = (n ≡ old → (g.0 ≡ 1) × (g.0 ≡ 1)) × (n ≢ old → (g.0 ≡ 0) × (g.0 ≡ 0)) in
     let OfMarked : Type 0 = (e.0 ≡ e.0) × (e.1 ≡ e.1) × (h.seen ≡ []) × Within d.posts g.1 in
-    let OfVacancy : Type 0 = (e.0 ≡ e.0) × (e.1 ≡ e.1) × (d.state ≡ d.state) × (new ≡ new) × (p ≡ d.at) in
-    use0 𝓛 (‵ ((Found R).own_val (p, tt) (word p ∷ []))) (found_made R 𝓛 p) $ fjoin ! $ move ! (1 ∷ []) $
-    use0 𝓛 (‵ ((fields.Vacancy R).own_val (p, tt) (word p ∷ []))) (fields.vacancy_made R 𝓛 p) $ fjoin ! $ nothing ! $
+    let OfVacancy : Type 0 = (e.0 ≡ e.0) × (e.1 ≡ e.1) × (d.state ≡ d.state) × (new ≡ new) × (x ≡ d.value) in
+    use0 𝓛 (‵ ((Found R).own_val (x, tt) (word x ∷ []))) (found_made R 𝓛 x) $ fjoin ! $ move ! (1 ∷ []) $
+    use0 𝓛 (‵ ((fields.Vacancy R).own_val (x, tt) (word x ∷ []))) (fields.vacancy_made R 𝓛 x) $ fjoin ! $ nothing ! $
     move ! (1 ∷ 0 ∷ []) $ fjoin ! $ move ! (1 ∷ 0 ∷ []) $ fjoin ! $
     flt_i ! n (2 ^ 64) fits $ feq_i ! (List Val) (vint w64 n ∷ []) (vint w64 n ∷ []) refl $ fjoin ! $
     fjoin ! $ feq_i ! (List Val) (v ∷ []) (v ∷ []) refl $ fjoin ! $
@@ -241,15 +254,15 @@ mark_spec 𝓤 𝓛 𝓜 𝓡 wired X L =
     (uss.1.1.0 ++ [])))) ∷ [])) (owns (u64 ∷ Mr ∷ Vr ∷ []) (n, (h, (z, tt))) uss)) (
       vint w64 n ∷ [],
       (
-        word p ∷ [],
+        word x ∷ [],
         (
-          word p ∷
+          word x ∷
               [],
           tt,
         ),
       ),
     ) $
-    use0 𝓛 (raw (fact 𝓤 OfVacancy)) (fact_i 𝓤 OfVacancy (emp 𝓤) (refl, refl, refl, refl, asked.0)) $
+    use0 𝓛 (raw (fact 𝓤 OfVacancy)) (fact_i 𝓤 OfVacancy (emp 𝓤) (refl, refl, refl, refl, sym inside ∙ sym inb.1)) $
     use0 𝓛 (raw (fact 𝓤 OfMarked)) (fact_i 𝓤 OfMarked (emp 𝓤) (refl, refl, refl, so.1)) $ join ! $
     use0 𝓛 (raw (fact 𝓤 Gained)) (fact_i 𝓤 Gained (emp 𝓤) (
       (λ e. (so.0.0 (e ∙ asked.2), so.0.0 (e ∙ asked.2))),
@@ -261,4 +274,4 @@ mark_spec 𝓤 𝓛 𝓜 𝓡 wired X L =
     )) $ join ! $ nothing ! $ nothing ! $ fjoin ! $ nothing ! $ fjoin ! $ nothing ! $ fjoin ! $ nothing ! $ fjoin ! $
     nothing ! $ fjoin ! $
     returns ! (look_at ! 0 refl) $ free_all ! refl $ keep ! (3 ∷ 0 ∷ 2 ∷ 1 ∷ []) $
-    by ! (leaves 𝓛 En hs c y v (n, h, z) (tt, (tt, (tt, (tt, (tt, tt))))) (tt, (tt, (tt, (tt, (tt, tt)))))))))))))))
+    by ! (leaves 𝓛 En hs c y v (n, h, z) (tt, (tt, (tt, (tt, (tt, tt))))) (tt, (tt, (tt, (tt, (tt, tt))))))))))))))))
