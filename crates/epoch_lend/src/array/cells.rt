@@ -28,8 +28,8 @@ pub struct PlacedAt<T> {
 }
 
 /// A fixed number of cells, whose values are lent to readers pinned at the posts of a set. Threads share them by `&`.
-/// The values lie side by side in one block of memory. When the cells are dropped and each of them is empty, the block
-/// is freed. A value that is still in a cell then is not dropped, and the block is never freed.
+/// Each value lies beside its cell's word, and all lie in one block of memory. When the cells are dropped and each is
+/// empty, the block is freed. A value that is still in a cell then is not dropped, and the block is never freed.
 pub struct LendingCells<J: PostSet, T> {
     slots: Vec<LentSlot<J, T>>,
     base: CellAt<T>,
