@@ -106,7 +106,7 @@ fn want_same<'s, J: PostSet>(
 }
 
 /// Makes all random calls, and compares the entries after each few. There are twice as many buckets as soon as there
-/// are more entries than buckets. Then all is removed.
+/// are more than four entries for three of them. Then all is removed.
 fn compare<'s, J: PostSet>(
     rt: &impl Abort,
     alloc: Global,
@@ -120,7 +120,7 @@ fn compare<'s, J: PostSet>(
         let wanted = call_model(rt, &mut model, call_of(number));
         let seen = answer(rt, map, part, call_of(number));
         want(rt, "a call on a growing map", seen, wanted);
-        if model.len() > buckets {
+        if model.len() > buckets + buckets / 3 {
             buckets = buckets.wrapping_mul(2);
         }
         want(rt, "how many buckets there are", map.buckets(), buckets);
