@@ -41,18 +41,18 @@ pub enum LookRow {
     Map,
 }
 
-/// What is looked at.
-trait LookedAt<J: PostSet> {
+/// What is looked at. It is copied: as in a caller's own loop, where it leads stands in registers then.
+trait LookedAt<J: PostSet>: Copy {
     /// What a look returns that finds what it should.
     const FOUND: u64;
 
     /// Looks once.
-    fn look(&self, guard: &LendingGuard<'_, J>) -> u64;
+    fn look(self, guard: &LendingGuard<'_, J>) -> u64;
 }
 
 /// Looks this many times under one guard, and returns how many looks found what they should.
 #[inline(never)]
-fn looks<J: PostSet, S: LookedAt<J>>(seen: &S, guard: &LendingGuard<'_, J>, turns: u64) -> u64 {
+fn looks<J: PostSet, S: LookedAt<J>>(seen: S, guard: &LendingGuard<'_, J>, turns: u64) -> u64 {
     let mut sum: u64 = 0;
     for _ in 0..turns {
         sum = sum.wrapping_add(seen.look(guard));
@@ -63,7 +63,7 @@ fn looks<J: PostSet, S: LookedAt<J>>(seen: &S, guard: &LendingGuard<'_, J>, turn
 /// Looks this many times under a guard that is renewed before each look.
 #[inline(never)]
 fn renewed_looks<'s, J: PostSet, S: LookedAt<J>>(
-    seen: &S,
+    seen: S,
     session: &mut Session<'s, J>,
     turns: u64,
 ) -> u64
@@ -82,7 +82,7 @@ fn renewed_looks<'s, J: PostSet, S: LookedAt<J>>(
 
 impl<'q, 's, J: PostSet, T: Drop> LentIdle<'q, 's, J, T> {
     /// Does the turns of one thread.
-    fn look<S: LookedAt<J>>(&mut self, row: LookRow, seen: &S, turns: u64) -> u64 {
+    fn look<S: LookedAt<J>>(&mut self, row: LookRow, seen: S, turns: u64) -> u64 {
         match row {
             LookRow::Pin => self.pins(turns),
             LookRow::RenewGet => renewed_looks(seen, &mut self.session, turns),
@@ -98,12 +98,12 @@ impl<'q, 's, J: PostSet, T: Drop> LentIdle<'q, 's, J, T> {
 
 /// What a row looks at.
 #[derive(Drop)]
-struct Seen<'w, S> {
+struct Seen<S> {
     row: LookRow,
-    at: &'w S,
+    at: S,
 }
 
-impl<'v, 'w, 'q, 's, J, T, S> Round for LentRound<'v, 'q, 's, J, T, Seen<'w, S>>
+impl<'v, 'q, 's, J, T, S> Round for LentRound<'v, 'q, 's, J, T, Seen<S>>
 where
     J: PostSet + Send + Sync,
     T: Drop + Send + Sync,
@@ -125,22 +125,20 @@ where
 }
 
 /// One value behind a pointer.
-#[derive(Drop)]
-struct One<'q, 's, J: PostSet> {
-    // It comes first, so that its load is as short as can be. With one byte more, the last branch of the loop ends at a
-    // border of 32 bytes, where some processors take longer for it.
-    pointer: Atomic<u64>,
+#[derive_where(Clone, Copy)]
+struct One<'p, 'q, 's, J: PostSet> {
+    pointer: &'p Atomic<u64>,
     store: &'q Store<'s, J, u64>,
 }
 
-impl<J: PostSet> LookedAt<J> for One<'_, '_, J> {
+impl<J: PostSet> LookedAt<J> for One<'_, '_, '_, J> {
     const FOUND: u64 = VALUE;
 
     #[inline(always)]
-    fn look(&self, guard: &LendingGuard<'_, J>) -> u64 {
+    fn look(self, guard: &LendingGuard<'_, J>) -> u64 {
         match self
             .store
-            .get(self.store.load(&self.pointer, SeqCst, guard), guard)
+            .get(self.store.load(self.pointer, SeqCst, guard), guard)
         {
             Some(value) => *value,
             None => 0,
@@ -150,10 +148,10 @@ impl<J: PostSet> LookedAt<J> for One<'_, '_, J> {
 
 impl<'q, 's, J: PostSet> LentIdle<'q, 's, J, u64> {
     /// Puts the value behind the pointer.
-    fn fill_cell(&mut self, one: &One<'q, 's, J>) {
+    fn fill_cell(&mut self, one: One<'_, 'q, 's, J>) {
         let guard = self.session.pin();
         if let Ok(placed) = self.writer.place(&guard, VALUE) {
-            one.store.store(&one.pointer, placed, SeqCst, &guard);
+            one.store.store(one.pointer, placed, SeqCst, &guard);
         }
         self.session.unpin(guard);
     }
@@ -167,14 +165,15 @@ fn cell_rounds_in<'s, R: Clock + Threads + Wait + Sync, J: PostSet + Send + Sync
     row: LookRow,
     times: &mut [u64],
 ) -> u64 {
-    let pointer = Atomic::null();
+    let at = Atomic::null();
+    let pointer = &at;
     let one = One { pointer, store };
     if let Some(idle) = LentIdle::join(alloc, store) {
         let mut filling = idle;
-        filling.fill_cell(&one);
+        filling.fill_cell(one);
         filling.leave(rt);
     }
-    let seen = Seen { row, at: &one };
+    let seen = Seen { row, at: one };
     let round = LentRound {
         alloc,
         store,
@@ -201,11 +200,11 @@ fn cell_rounds<R: Clock + Threads + Wait + Sync, J: PostSet + Send + Sync>(
     Ok(done)
 }
 
-impl<J: PostSet> LookedAt<J> for SortedList<'_, '_, J> {
+impl<J: PostSet> LookedAt<J> for &SortedList<'_, '_, J> {
     const FOUND: u64 = 1;
 
     #[inline(always)]
-    fn look(&self, guard: &LendingGuard<'_, J>) -> u64 {
+    fn look(self, guard: &LendingGuard<'_, J>) -> u64 {
         match self.contains(KEYS, guard, STEPS) {
             Ok(true) => 1,
             _ => 0,
@@ -267,11 +266,11 @@ fn list_rounds<R: Clock + Threads + Wait + Sync, J: PostSet + Send + Sync>(
 /// The nodes of the map.
 type KeyNode = LentEntry<u64, u64>;
 
-impl<J: PostSet> LookedAt<J> for LendingMap<'_, '_, J, KeyNode> {
+impl<J: PostSet> LookedAt<J> for &LendingMap<'_, '_, J, KeyNode> {
     const FOUND: u64 = 1;
 
     #[inline(always)]
-    fn look(&self, guard: &LendingGuard<'_, J>) -> u64 {
+    fn look(self, guard: &LendingGuard<'_, J>) -> u64 {
         match self.contains(guard, &KEYS, STEPS) {
             Ok(true) => 1,
             _ => 0,
