@@ -2,6 +2,7 @@ pub mod PlanWorlds
 pub mod Stacks
 pub mod Queues
 pub mod Maps
+pub mod MarkedLists
 pub use Rattle.epoch_structure_laws.specs.Plans
 pub use Rattle.epoch_structure_laws.specs.Asks
 pub use Rattle.epoch_structure_laws.specs.Served

@@ -1,7 +1,9 @@
-//! A stack, a queue and a map in a world, one step at a time, and worlds of any program of phases.
+//! A stack, a queue and a map in a world, one step at a time, worlds of any program of phases, and laws of a list that
+//! stays sorted.
 #![tactic(auto)]
 
 pub mod map;
+pub mod marked_list;
 pub mod plans;
 pub mod queue;
 pub mod stack;
