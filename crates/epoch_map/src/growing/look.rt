@@ -10,43 +10,12 @@ use crate::node::MapNode;
 use crate::seeks::Seeks;
 use epoch_lend::readers::posts::PostSet;
 use epoch_lend::session::LendingGuard;
-use epoch_lend_nodes::Link;
 use epoch_lend_pointers::steps::{HasStoreSteps, StoreSteps};
 use std::cmp::Ordering;
 
 impl<'q, 's, J: PostSet, N: MapNode> GrowingMap<'q, 's, J, N> {
-    // Looks for the node of this key behind this pointer, and passes by nodes whose entries are removed. The walk goes
-    // from link to link: what it carries on is then one address.
-    #[inline(always)]
-    fn seek<'g, Q: Seeks<N::Key>, M: StoreSteps<N>>(
-        &self,
-        guard: &'g LendingGuard<'_, J>,
-        key: &Q,
-        number: u64,
-        from: &Link<N>,
-    ) -> Option<&'g N>
-    where
-        N: HasStoreSteps<M>,
-        ensures found { IfSome result (λ node. Q.compared (N.key node.now) key.now ≡ Equal) }
-        ensures lent { IfSome result (λ node. (name : Option Name) × IsSomeAnd name
-            (λ name. M.lent (map (λ s. s.turns.log) self.now.cells.now.cells.first.slots.items) name node.now)) }
-    {
-        let mut link = from;
-        for _ in 0..u64::MAX {
-            let node = self.named(link.load(self.store).name(), guard)?;
-            link = node.next();
-            if link.load(self.store).tag() == 0 {
-                match compare(node.key(), key, number) {
-                    Ordering::Less => {}
-                    Ordering::Equal => return Some(node),
-                    Ordering::Greater => return None,
-                }
-            }
-        }
-        None
-    }
-
-    // Looks for the node of this key from the one to which its bucket's hint leads, or from an earlier bucket on.
+    // Looks for the node of this key from the one to which its bucket's hint leads, or from an earlier bucket on, and
+    // passes by nodes whose entries are removed. The walk goes from link to link: what it carries on is one address.
     #[inline(never)]
     fn seek_further<'g, Q: Seeks<N::Key>, M: StoreSteps<N>>(
         &self,
@@ -61,17 +30,30 @@ impl<'q, 's, J: PostSet, N: MapNode> GrowingMap<'q, 's, J, N> {
         ensures lent { IfSome result (λ node. (name : Option Name) × IsSomeAnd name
             (λ name. M.lent (map (λ s. s.turns.log) self.now.cells.now.cells.first.slots.items) name node.now)) }
     {
-        if let Some(node) = hinted {
-            if let Some(Ordering::Less) = self.order(node, key, bucket.number) {
-                return self.seek(guard, key, bucket.number, node.next());
+        let order = match hinted {
+            Some(node) => self.order(node, key, bucket.number),
+            None => None,
+        };
+        let mut link = match (hinted, order) {
+            (Some(node), Some(Ordering::Less)) => node.next(),
+            _ => match self.hinted_before(guard, key, bucket, true) {
+                Some(hinted) if hinted.found => return Some(hinted.node),
+                Some(hinted) => hinted.node.next(),
+                None => &self.head,
+            },
+        };
+        for _ in 0..u64::MAX {
+            let node = self.named(link.load(self.store).name(), guard)?;
+            link = node.next();
+            if link.load(self.store).tag() == 0 {
+                match compare(node.key(), key, bucket.number) {
+                    Ordering::Less => {}
+                    Ordering::Equal => return Some(node),
+                    Ordering::Greater => return None,
+                }
             }
         }
-        let from = match self.hinted_before(guard, key, bucket, true) {
-            Some(hinted) if hinted.found => return Some(hinted.node),
-            Some(hinted) => hinted.node.next(),
-            None => &self.head,
-        };
-        self.seek(guard, key, bucket.number, from)
+        None
     }
 
     /// Looks for the entry of this key, and lends it for as long as the guard is borrowed. `None`: the key was seen
