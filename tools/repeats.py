@@ -16,7 +16,7 @@ import re
 import sys
 
 LIST = 5
-CLAUSES = 1005
+CLAUSES = 998
 LISTS = 31
 LEMMAS = 0
 STATEMENTS = 24

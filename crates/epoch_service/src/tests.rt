@@ -156,6 +156,7 @@ impl MapCrew<Text, u64> for Texts {
         self.found.note(6, retained.is_ok() && sum_of(map) == 20);
         self.found.note(7, map.remove(&key) == Ok(false));
         self.found.note(8, map.clear().is_ok() && map.is_empty());
+        self.found.note(10, *key.key() == "key 1");
     }
 
     fn thread(&self, number: usize, map: &mut impl SharedMap<Text, u64>) {
@@ -305,7 +306,7 @@ fn a_map_of_texts_is_asked_by_texts_that_own_nothing(rt: HostRuntime) {
         found: Found::default(),
     };
     want_threads(&rt, share_map(&rt, rt.alloc(), 4, &crew), 4);
-    want(&rt, "a map of texts", &crew.found, 1_023);
+    want(&rt, "a map of texts", &crew.found, 2_047);
 }
 
 #[test]

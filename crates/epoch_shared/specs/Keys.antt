@@ -1,11 +1,16 @@
--- What a key with a hash has, and what stands in one entry.
-use Rattle.std.specs.Prelude.{◌≡◌}
+-- What a key with a hash has.
+use Rattle.std.specs.Prelude.{ℕ, List}
+use Rattle.std.specs.List.{fold}
 use Rattle.epoch_shared.specs.declared.hashed.Hashed.{Hashed}
 
 -- the value beside the hash
 abbrev pub key_in : {K : Type 0} → Hashed K → K
 key_in hashed = hashed.key
 
--- One node has this key and this value.
-abbrev pub IsOfNode : {N K V : Type 0} → (N → K) → (N → K × V) → K → V → Type 0
-IsOfNode {N} key_of entry_of key value = (node : N) × (key_of node ≡ key) × ((entry_of node).1 ≡ value)
+-- the hash beside the value
+abbrev pub hash_in : {K : Type 0} → Hashed K → ℕ
+hash_in hashed = hashed.hash
+
+-- what a hasher, by how it takes a write and how it ends, makes of what a value writes
+abbrev pub hash_by : {H : Type 0} → (H → List ℕ → H) → (H → ℕ) → H → List (List ℕ) → ℕ
+hash_by write finish hasher writes = finish (fold write hasher writes)

@@ -1,2 +1,5 @@
+pub mod Contents
 pub mod Keys
+pub mod Parts
+pub mod Showing
 pub mod Updates

@@ -4,7 +4,8 @@ ghost use Rattle.std.specs.Ordering.{nat_cmp, ordering_then};
 ghost use Rattle.std.specs.Cmp.Lexicographic.{slice_cmp};
 ghost use Rattle.std.proofs.Common.{rules};
 ghost use Rattle.std.specs.Cmp.Rules.{comparing};
-ghost use Rattle.epoch_shared.specs.Keys.{key_in};
+ghost use Rattle.std.specs.Hash.DefaultHasher as sip;
+ghost use Rattle.epoch_shared.specs.Keys.{hash_by, hash_in, key_in};
 
 use epoch_map::{MapKey, Seeks};
 use std::cmp::Ordering;
@@ -21,8 +22,9 @@ impl<K: Hash> Hashed<K> {
     /// Makes a key of this value. Its hash is always the same one, so where strangers choose the keys, take
     /// [`Hashed::with_hasher`].
     pub fn new(key: K) -> Hashed<K>
-        // A key with a hash has the value that it was made of.
-        ensures { key_in result ≡ key }
+        // A key with a hash has the value that it was made of, and the hash that its hasher makes of that.
+        ensures key { key_in result ≡ key }
+        ensures hash { hash_in result ≡ hash_by sip.write sip.finish sip.initial (K.hash_input key) }
     {
         Hashed::of(key, DefaultHasher::new())
     }
@@ -32,14 +34,17 @@ impl<K: Hash> Hashed<K> {
     ///
     /// All keys of a map need hashers of one state: with another one, a key isn't found.
     pub fn with_hasher<S: BuildHasher>(key: K, state: &S) -> Hashed<K>
-        ensures { key_in result ≡ key }
+        ensures key { key_in result ≡ key }
+        ensures hash { hash_in result
+            ≡ hash_by S.Hasher.write S.Hasher.finish (S.build_hasher state.now) (K.hash_input key) }
     {
         Hashed::of(key, state.build_hasher())
     }
 
     // Makes a key of this value, with this hasher.
     fn of<H: Hasher + Drop>(key: K, hasher: H) -> Hashed<K>
-        ensures { key_in result ≡ key }
+        ensures key { key_in result ≡ key }
+        ensures hash { hash_in result ≡ hash_by H.write H.finish hasher (K.hash_input key) }
     {
         let mut hasher = hasher;
         key.hash(&mut hasher);

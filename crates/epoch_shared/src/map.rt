@@ -1,9 +1,10 @@
 //! A map, whose entries are read all the time, inserted, replaced and removed; or a cache, which has so many at most.
-ghost use Rattle.std.specs.Prelude.{◌≡◌, ◌⊎◌, None, Ok, IsTrue, IfErr, IfOk, IfSome};
+ghost use Rattle.std.specs.Prelude.{◌≡◌, ◌⊎◌, ℕ, true, false, None, Some, Ok, IsOk, IsTrue, IfErr, IfOk, IfSome, ◌↔◌};
 ghost use Rattle.std.specs.Fn.{FnOnceReturnsAt, FnReturnsAt};
 ghost use Rattle.std.specs.declared.cmp.Ordering.TheVariants.{Equal};
 ghost use Rattle.epoch_map.specs.Placing.{KeepsOrRetires};
 ghost use Rattle.epoch_cells.specs.declared.fault.Fault.TheVariants.{CellsFull, NoMemory, TriesOut};
+ghost use Rattle.epoch_shared.specs.Contents.{HasEntry};
 
 pub(crate) mod calls;
 pub(crate) mod hold;
@@ -19,6 +20,9 @@ use epoch_map::{MapKey, Seeks};
 pub trait MapReads<K: MapKey, V> {
     /// An entry has this key and this value.
     ghost is_entry: { K → V → Type 0 };
+
+    /// So many entries were counted. If the type is a parameter, nothing but [`MapReads::len`] shows it.
+    ghost has_counted: { Self → ℕ → Type 0 };
 
     /// Looks at the value of this key, and returns what `look` makes of it. `None`: the key was seen missing.
     ///
@@ -52,10 +56,14 @@ pub trait MapReads<K: MapKey, V> {
         requires { F.IsAlwaysCallable each };
 
     /// Returns how many entries there are: exactly, while no other thread inserts or removes any.
-    fn len(&self) -> usize;
+    fn len(&self) -> usize
+        // The number of entries is one that was counted, and a map is empty exactly if none were.
+        ensures { has_counted self.now result };
 
     /// Returns whether there are none, as [`MapReads::len`] does.
-    fn is_empty(&self) -> bool {
+    fn is_empty(&self) -> bool
+        ensures { (count : ℕ) × has_counted self.now count × (IsTrue result ↔ (count ≡ 0)) }
+    {
         self.len() == 0
     }
 }
@@ -64,12 +72,22 @@ pub trait MapReads<K: MapKey, V> {
 ///
 /// `TriesOut` says that other threads were first 2^64 times.
 pub trait MapInserts<K: MapKey, V> {
+    /// An entry has this key and this value.
+    ghost is_entry: { K → V → Type 0 };
+
+    /// An entry was made of this key and this value.
+    ghost is_made: { K → V → Type 0 };
+
     /// Gives the key this value, unless it has one. Returns whether it did; if the key has a value, the new one is
     /// dropped.
     ///
     /// `CellsFull`: there are about 16 million entries, or so many that were removed are looked at still. `NoMemory`:
     /// an allocation was refused. The key and the value come back, unless their entry was placed.
     fn insert(&mut self, key: K, value: V) -> Result<bool, Refused<Option<(K, V)>>>
+        // Of a key and a value that are inserted, an entry was made. A key is refused as being there only if an entry
+        // was found whose key compares as equal.
+        ensures inserted { result ≡ Ok true → is_made key value }
+        ensures found { result ≡ Ok false → HasEntry is_entry (λ there. K.cmp there key ≡ Equal) }
         // An insert or a put that is refused hands its key and value back, or says with `TriesOut` that their entry was
         // placed, and is dropped. It is refused only with `NoMemory`, `CellsFull` or `TriesOut`.
         ensures handed_back { IfErr result (λ back. KeepsOrRetires (key, value) back) }
@@ -81,6 +99,10 @@ pub trait MapInserts<K: MapKey, V> {
     ///
     /// The faults are those of [`MapInserts::insert`], and hand back the same. Nothing was replaced.
     fn put(&mut self, key: K, value: V) -> Result<bool, Refused<Option<(K, V)>>>
+        // Of a key and a value that are put, an entry was made. One is told as replaced only if it was found, and its
+        // key compares as equal.
+        ensures put { IsOk result → is_made key value }
+        ensures replaced { result ≡ Ok true → HasEntry is_entry (λ there. K.cmp there key ≡ Equal) }
         ensures handed_back { IfErr result (λ back. KeepsOrRetires (key, value) back) }
         ensures refused { IfErr result (λ back. (back.fault ≡ NoMemory) ⊎ (back.fault ≡ CellsFull)
             ⊎ (back.fault ≡ TriesOut)) };
@@ -97,11 +119,15 @@ pub trait MapInserts<K: MapKey, V> {
     ) -> Result<Option<R>, Refused<Option<(K, V)>>>
         requires make { M.IsAlwaysCallable make }
         requires look { F.IsAlwaysCallable look }
-        // A look-up that inserts returns what `look` returned at some value, or `None` only if no value was made. What
-        // it hands back has the key that it was given.
-        ensures given { IfOk result (λ seen. IfSome seen (λ made. (value : V) × FnReturnsAt F.Fn look value made)) }
+        // A look-up that inserts returns what `look` returned at what `make` made, or at the value of an entry whose
+        // key compares as equal; or `None` only if `make` did. If it is refused, it hands back its key and what `make`
+        // made, or says with `TriesOut` that their entry was placed, and is dropped.
+        ensures given { IfOk result (λ seen. IfSome seen (λ made. (value : V) × FnReturnsAt F.Fn look value made
+            × (M.post make (Some value)
+            ⊎ ((there : K) × is_entry there value × (K.cmp there key ≡ Equal))))) }
         ensures none { result ≡ Ok None → M.post make None }
-        ensures handed_back { IfErr result (λ back. IfSome back.value (λ pair. pair.0 ≡ key)) }
+        ensures handed_back { IfErr result
+            (λ back. (value : V) × M.post make (Some value) × KeepsOrRetires (key, value) back) }
         ensures refused { IfErr result (λ back. (back.fault ≡ NoMemory) ⊎ (back.fault ≡ CellsFull)
             ⊎ (back.fault ≡ TriesOut)) };
 }
@@ -110,12 +136,17 @@ pub trait MapInserts<K: MapKey, V> {
 ///
 /// `TriesOut` says that other threads were first 2^64 times.
 pub trait MapRemovals<K: MapKey, V> {
+    /// An entry has this key and this value.
+    ghost is_entry: { K → V → Type 0 };
+
     /// Removes the key, which is given as to [`MapReads::get`]. Returns whether this call did: of several threads that
     /// remove a key at once, one does. Its value is dropped once no thread looks at it any more.
     ///
     /// `NoMemory`: an allocation was refused. Nothing was removed.
     fn remove<Q: Seeks<K>>(&mut self, key: &Q) -> Result<bool, Fault>
-        // A removal is refused only with `NoMemory` or `TriesOut`.
+        // A key is told as removed only if an entry was found whose key compares as equal. A removal is refused only
+        // with `NoMemory` or `TriesOut`.
+        ensures removed { result ≡ Ok true → HasEntry is_entry (λ there. Q.compared there key.now ≡ Equal) }
         ensures refused { IfErr result (λ fault. (fault ≡ NoMemory) ⊎ (fault ≡ TriesOut)) };
 
     /// Removes the entries for which `keep` returns `false`. It goes over the entries as [`MapReads::for_each`] does,

@@ -1,6 +1,7 @@
 //! Makes a value, has threads share it, and ends it afterwards.
 ghost use Rattle.std.specs.Prelude.{◌≡◌, ◌⊎◌, ◌≤◌, IfOk, IfErr};
 ghost use Rattle.epoch_cells.specs.declared.fault.Fault.TheVariants.{NoMemory, CellsFull, TableFull};
+ghost use Rattle.epoch_shared.specs.Parts.{DidStep, HasParts};
 
 use crate::crew::ValueCrew;
 use crate::sizes::{cells_for, make_posts, posts_for};
@@ -33,6 +34,7 @@ where
     // No more threads take part than are asked for. The call is refused only if an allocation is refused, or if too few
     // cells or posts were made.
     ensures most { IfOk result (λ done. done ≤ threads) }
+    ensures parts { IfOk result (HasParts (C.has_done crew.now) threads) }
     ensures refused { IfErr result (λ fault. (fault ≡ NoMemory) ⊎ (fault ≡ CellsFull) ⊎ (fault ≡ TableFull)) }
 {
     let made = make_posts(alloc, posts_for(threads))?;
@@ -48,7 +50,7 @@ fn begin<
 where
     N::Value: Send + Sync,
     requires { made.posts.items ≡ J.posts }
-    ensures most { IfOk result (λ done. done ≤ threads) }
+    ensures most { IfOk result (HasParts (C.has_done crew.now) threads) }
     ensures refused { IfErr result (λ fault. (fault ≡ NoMemory) ⊎ (fault ≡ CellsFull) ⊎ (fault ≡ TableFull)) }
 {
     let Ok(posts) = Posts::<J>::of(alloc, made) else {
@@ -70,7 +72,7 @@ fn share_in<
 >(rt: &R, alloc: Global, store: &Store<'_, J, N>, threads: u16, crew: &C) -> Result<usize, Fault>
 where
     N::Value: Send + Sync,
-    ensures most { IfOk result (λ done. done ≤ threads) }
+    ensures most { IfOk result (HasParts (C.has_done crew.now) threads) }
     ensures refused { IfErr result (λ fault. (fault ≡ NoMemory) ⊎ (fault ≡ TableFull)) }
 {
     let root = ValueRoot::new(store);
@@ -87,6 +89,8 @@ struct Working<'c, C> {
 
 impl<'q, 's, J: PostSet, N: Wraps, C: ValueCrew<N::Value>> Round<ValueRoot<'q, 's, J, N>>
     for Working<'_, C> {
+    ghost has_taken = { λ work step. DidStep (C.has_done work.crew.now) step };
+
     fn take_part(&self, step: Step, root: &ValueRoot<'q, 's, J, N>) -> Result<(), Fault> {
         let mut hold = ValueHold::join(self.alloc, root)?;
         take_step(step, &mut hold, self.crew);
@@ -96,7 +100,9 @@ impl<'q, 's, J: PostSet, N: Wraps, C: ValueCrew<N::Value>> Round<ValueRoot<'q, '
 }
 
 // Has the crew take this step.
-fn take_step<T, C: ValueCrew<T>, V: SharedValue<T>>(step: Step, value: &mut V, crew: &C) {
+fn take_step<T, C: ValueCrew<T>, V: SharedValue<T>>(step: Step, value: &mut V, crew: &C)
+    ensures { DidStep (C.has_done crew.now) step }
+{
     match step {
         Step::Before => crew.before(value),
         Step::Thread(number) => crew.thread(number, value),

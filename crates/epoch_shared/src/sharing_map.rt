@@ -1,6 +1,7 @@
 //! Does for a map, or a cache, what the module `sharing` does for a value.
 ghost use Rattle.std.specs.Prelude.{◌≡◌, ◌⊎◌, ◌≤◌, IfOk, IfErr};
 ghost use Rattle.epoch_cells.specs.declared.fault.Fault.TheVariants.{NoMemory, CellsFull, TableFull};
+ghost use Rattle.epoch_shared.specs.Parts.{DidStep, EndsStep, HasParts};
 
 use crate::crew::MapCrew;
 use crate::map::hold::{LookHold, MapRoot};
@@ -38,6 +39,7 @@ where
     // No more threads take part in the crew of a map or of a cache than are asked for, and it fails as `share_value`
     // does.
     ensures most { IfOk result (λ done. done ≤ threads) }
+    ensures parts { IfOk result (HasParts (C.has_done crew.now) threads) }
     ensures refused { IfErr result (λ fault. (fault ≡ NoMemory) ⊎ (fault ≡ CellsFull) ⊎ (fault ≡ TableFull)) }
 {
     share_entries::<R, K, V, C>(rt, alloc, threads, None, crew)
@@ -57,6 +59,7 @@ where
     V: Drop + Send + Sync,
     C: MapCrew<K, V> + Sync,
     ensures most { IfOk result (λ done. done ≤ threads) }
+    ensures parts { IfOk result (HasParts (C.has_done crew.now) threads) }
     ensures refused { IfErr result (λ fault. (fault ≡ NoMemory) ⊎ (fault ≡ CellsFull) ⊎ (fault ≡ TableFull)) }
 {
     share_entries::<R, K, V, C>(rt, alloc, threads, Some(capacity), crew)
@@ -74,7 +77,7 @@ where
     K: MapKey + Drop + Send + Sync,
     V: Drop + Send + Sync,
     C: MapCrew<K, V> + Sync,
-    ensures most { IfOk result (λ done. done ≤ threads) }
+    ensures most { IfOk result (HasParts (C.has_done crew.now) threads) }
     ensures refused { IfErr result (λ fault. (fault ≡ NoMemory) ⊎ (fault ≡ CellsFull) ⊎ (fault ≡ TableFull)) }
 {
     // Each thread has three sessions.
@@ -99,7 +102,7 @@ where
     N::Key: Send + Sync,
     N::Value: Send + Sync,
     requires { made.posts.items ≡ J.posts }
-    ensures most { IfOk result (λ done. done ≤ threads) }
+    ensures most { IfOk result (HasParts (C.has_done crew.now) threads) }
     ensures refused { IfErr result (λ fault. (fault ≡ NoMemory) ⊎ (fault ≡ CellsFull) ⊎ (fault ≡ TableFull)) }
 {
     let Ok(posts) = Posts::<J>::of(alloc, made) else {
@@ -129,7 +132,7 @@ fn share_in<
 where
     N::Key: Send + Sync,
     N::Value: Send + Sync,
-    ensures most { IfOk result (λ done. done ≤ threads) }
+    ensures most { IfOk result (HasParts (C.has_done crew.now) threads) }
     ensures refused { IfErr result (λ fault. (fault ≡ NoMemory) ⊎ (fault ≡ TableFull)) }
 {
     let root = MapRoot::new(alloc, store, capacity)?;
@@ -146,6 +149,8 @@ struct Mapping<'c, C> {
 
 impl<'q, 's, J: PostSet, N: KeepsEntry, C: MapCrew<N::Key, N::Value>> Round<MapRoot<'q, 's, J, N>>
     for Mapping<'_, C> {
+    ghost has_taken = { λ work step. DidStep (C.has_done work.crew.now) step };
+
     fn take_part(&self, step: Step, root: &MapRoot<'q, 's, J, N>) -> Result<(), Fault> {
         let mut looks = LookHold::join(root)?;
         take_inserts(self.alloc, step, root, &mut looks, self.crew)
@@ -162,7 +167,7 @@ fn take_inserts<J: PostSet, N: KeepsEntry, L: MapReads<N::Key, N::Value>, C>(
 ) -> Result<(), Fault>
 where
     C: MapCrew<N::Key, N::Value>,
-    ensures refused { IfErr result (λ fault. (fault ≡ NoMemory) ⊎ (fault ≡ TableFull)) }
+    ensures { EndsStep (DidStep (C.has_done crew.now) step) result }
 {
     let mut inserts = InsertHold::join(alloc, root)?;
     let done = take_removals(alloc, step, root, looks, &mut inserts, crew);
@@ -183,7 +188,7 @@ where
     L: MapReads<N::Key, N::Value>,
     I: MapInserts<N::Key, N::Value>,
     C: MapCrew<N::Key, N::Value>,
-    ensures refused { IfErr result (λ fault. (fault ≡ NoMemory) ⊎ (fault ≡ TableFull)) }
+    ensures { EndsStep (DidStep (C.has_done crew.now) step) result }
 {
     let mut removals = RemoveHold::join(alloc, root)?;
     take_step(step, looks, inserts, &mut removals, crew);
@@ -203,6 +208,7 @@ where
     L: MapReads<K, V>,
     I: MapInserts<K, V>,
     R: MapRemovals<K, V>,
+    ensures { DidStep (C.has_done crew.now) step }
 {
     let mut map = MapParts {
         looks,

@@ -1,6 +1,7 @@
 //! Does for a stack what the module `sharing` does for a value.
 ghost use Rattle.std.specs.Prelude.{◌≡◌, ◌⊎◌, ◌≤◌, IfOk, IfErr};
 ghost use Rattle.epoch_cells.specs.declared.fault.Fault.TheVariants.{NoMemory, CellsFull, TableFull};
+ghost use Rattle.epoch_shared.specs.Parts.{DidStep, HasParts};
 
 use crate::crew::StackCrew;
 use crate::sizes::{cells_for, make_posts, posts_for};
@@ -29,6 +30,7 @@ pub fn share_stack<R: Threads + Sync, V: Drop + Send + Sync, C: StackCrew<V> + S
 where
     // No more threads take part in the crew of a stack than are asked for, and it fails as `share_value` does.
     ensures most { IfOk result (λ done. done ≤ threads) }
+    ensures parts { IfOk result (HasParts (C.has_done crew.now) threads) }
     ensures refused { IfErr result (λ fault. (fault ≡ NoMemory) ⊎ (fault ≡ CellsFull) ⊎ (fault ≡ TableFull)) }
 {
     let made = make_posts(alloc, posts_for(threads))?;
@@ -44,7 +46,7 @@ fn begin<
 where
     N::Value: Send + Sync,
     requires { made.posts.items ≡ J.posts }
-    ensures most { IfOk result (λ done. done ≤ threads) }
+    ensures most { IfOk result (HasParts (C.has_done crew.now) threads) }
     ensures refused { IfErr result (λ fault. (fault ≡ NoMemory) ⊎ (fault ≡ CellsFull) ⊎ (fault ≡ TableFull)) }
 {
     let Ok(posts) = Posts::<J>::of(alloc, made) else {
@@ -66,7 +68,7 @@ fn share_in<
 >(rt: &R, alloc: Global, store: &Store<'_, J, N>, threads: u16, crew: &C) -> Result<usize, Fault>
 where
     N::Value: Send + Sync,
-    ensures most { IfOk result (λ done. done ≤ threads) }
+    ensures most { IfOk result (HasParts (C.has_done crew.now) threads) }
     ensures refused { IfErr result (λ fault. (fault ≡ NoMemory) ⊎ (fault ≡ TableFull)) }
 {
     let root = StackRoot::new(store);
@@ -83,6 +85,8 @@ struct Stacking<'c, C> {
 
 impl<'q, 's, J: PostSet, N: MovesValue, C: StackCrew<N::Value>> Round<StackRoot<'q, 's, J, N>>
     for Stacking<'_, C> {
+    ghost has_taken = { λ work step. DidStep (C.has_done work.crew.now) step };
+
     fn take_part(&self, step: Step, root: &StackRoot<'q, 's, J, N>) -> Result<(), Fault> {
         let mut hold = StackHold::join(self.alloc, root)?;
         take_step(step, &mut hold, self.crew);
@@ -92,7 +96,9 @@ impl<'q, 's, J: PostSet, N: MovesValue, C: StackCrew<N::Value>> Round<StackRoot<
 }
 
 // Has the crew take this step.
-fn take_step<V, C: StackCrew<V>, S: SharedStack<V>>(step: Step, stack: &mut S, crew: &C) {
+fn take_step<V, C: StackCrew<V>, S: SharedStack<V>>(step: Step, stack: &mut S, crew: &C)
+    ensures { DidStep (C.has_done crew.now) step }
+{
     match step {
         Step::Before => crew.before(stack),
         Step::Thread(number) => crew.thread(number, stack),

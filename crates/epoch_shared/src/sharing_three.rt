@@ -1,6 +1,7 @@
 //! Does for a value, a map and a channel what the module `sharing` does for a value. All stand in one domain.
 ghost use Rattle.std.specs.Prelude.{◌≡◌, ◌⊎◌, ◌≤◌, IfOk, IfErr};
 ghost use Rattle.epoch_cells.specs.declared.fault.Fault.TheVariants.{NoMemory, CellsFull, TableFull};
+ghost use Rattle.epoch_shared.specs.Parts.{DidStep, EndsStep, HasParts};
 
 use crate::channel::{ChannelHold, ChannelRoot, SharedChannel};
 use crate::crew::Crew;
@@ -41,6 +42,7 @@ where
     C: Crew<T, K, V, M> + Sync,
     // No more threads take part in a crew of three structures than are asked for, and it fails as `share_value` does.
     ensures most { IfOk result (λ done. done ≤ sizes.threads) }
+    ensures parts { IfOk result (HasParts (C.has_done crew.now) sizes.threads) }
     ensures refused { IfErr result (λ fault. (fault ≡ NoMemory) ⊎ (fault ≡ CellsFull) ⊎ (fault ≡ TableFull)) }
 {
     // Each thread has five sessions.
@@ -69,7 +71,7 @@ where
     M::Value: Send + Sync,
     C: Crew<N::Value, E::Key, E::Value, M::Value> + Sync,
     requires { made.posts.items ≡ J.posts }
-    ensures most { IfOk result (λ done. done ≤ sizes.threads) }
+    ensures most { IfOk result (HasParts (C.has_done crew.now) sizes.threads) }
     ensures refused { IfErr result (λ fault. (fault ≡ NoMemory) ⊎ (fault ≡ CellsFull) ⊎ (fault ≡ TableFull)) }
 {
     let Ok(posts) = Posts::<J>::of(alloc, made) else {
@@ -101,7 +103,7 @@ where
     E::Value: Send + Sync,
     M::Value: Send + Sync,
     C: Crew<N::Value, E::Key, E::Value, M::Value> + Sync,
-    ensures most { IfOk result (λ done. done ≤ sizes.threads) }
+    ensures most { IfOk result (HasParts (C.has_done crew.now) sizes.threads) }
     ensures refused { IfErr result (λ fault. (fault ≡ NoMemory) ⊎ (fault ≡ CellsFull) ⊎ (fault ≡ TableFull)) }
 {
     let domain = values.domain();
@@ -131,7 +133,7 @@ where
     E::Value: Send + Sync,
     M::Value: Send + Sync,
     C: Crew<N::Value, E::Key, E::Value, M::Value> + Sync,
-    ensures most { IfOk result (λ done. done ≤ sizes.threads) }
+    ensures most { IfOk result (HasParts (C.has_done crew.now) sizes.threads) }
     ensures refused { IfErr result (λ fault. (fault ≡ NoMemory) ⊎ (fault ≡ CellsFull) ⊎ (fault ≡ TableFull)) }
 {
     let domain = values.domain();
@@ -163,7 +165,7 @@ where
     E::Value: Send + Sync,
     M::Value: Send + Sync,
     C: Crew<N::Value, E::Key, E::Value, M::Value> + Sync,
-    ensures most { IfOk result (λ done. done ≤ sizes.threads) }
+    ensures most { IfOk result (HasParts (C.has_done crew.now) sizes.threads) }
     ensures refused { IfErr result (λ fault. (fault ≡ NoMemory) ⊎ (fault ≡ CellsFull) ⊎ (fault ≡ TableFull)) }
 {
     let map = MapRoot::new(alloc, entries, sizes.capacity)?;
@@ -202,6 +204,8 @@ where
     M: MovesValue,
     C: Crew<N::Value, E::Key, E::Value, M::Value>,
 {
+    ghost has_taken = { λ work step. DidStep (C.has_done work.crew.now) step };
+
     fn take_part(
         &self,
         step: Step,
@@ -233,7 +237,7 @@ fn take_looks<J: PostSet, T, E: KeepsEntry, M: MovesValue, C, S>(
 where
     C: Crew<T, E::Key, E::Value, M::Value>,
     S: SharedValue<T>,
-    ensures refused { IfErr result (λ fault. (fault ≡ NoMemory) ⊎ (fault ≡ TableFull)) }
+    ensures { EndsStep (DidStep (C.has_done crew.now) step) result }
 {
     let mut looks = LookHold::join(map)?;
     take_inserts(alloc, step, map, channel, value, &mut looks, crew)
@@ -253,7 +257,7 @@ where
     C: Crew<T, E::Key, E::Value, M::Value>,
     S: SharedValue<T>,
     L: MapReads<E::Key, E::Value>,
-    ensures refused { IfErr result (λ fault. (fault ≡ NoMemory) ⊎ (fault ≡ TableFull)) }
+    ensures { EndsStep (DidStep (C.has_done crew.now) step) result }
 {
     let mut inserts = InsertHold::join(alloc, map)?;
     let done = take_removals(alloc, step, map, channel, value, looks, &mut inserts, crew);
@@ -277,7 +281,7 @@ where
     S: SharedValue<T>,
     L: MapReads<E::Key, E::Value>,
     I: MapInserts<E::Key, E::Value>,
-    ensures refused { IfErr result (λ fault. (fault ≡ NoMemory) ⊎ (fault ≡ TableFull)) }
+    ensures { EndsStep (DidStep (C.has_done crew.now) step) result }
 {
     let mut removals = RemoveHold::join(alloc, map)?;
     let done = take_parts(
@@ -311,7 +315,7 @@ where
     L: MapReads<K, V>,
     I: MapInserts<K, V>,
     R: MapRemovals<K, V>,
-    ensures refused { IfErr result (λ fault. (fault ≡ NoMemory) ⊎ (fault ≡ TableFull)) }
+    ensures { EndsStep (DidStep (C.has_done crew.now) step) result }
 {
     let mut entries = MapParts {
         looks,
@@ -334,7 +338,7 @@ where
     C: Crew<T, K, V, M::Value>,
     S: SharedValue<T>,
     E: SharedMap<K, V>,
-    ensures refused { IfErr result (λ fault. (fault ≡ NoMemory) ⊎ (fault ≡ TableFull)) }
+    ensures { EndsStep (DidStep (C.has_done crew.now) step) result }
 {
     let mut messages = ChannelHold::join(alloc, channel)?;
     take_step(step, value, entries, &mut messages, crew);
@@ -356,6 +360,7 @@ where
     S: SharedValue<T>,
     E: SharedMap<K, V>,
     N: SharedChannel<M>,
+    ensures { DidStep (C.has_done crew.now) step }
 {
     match step {
         Step::Before => crew.before(value, entries, messages),

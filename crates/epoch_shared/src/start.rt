@@ -1,6 +1,9 @@
 //! Starts threads that share something, and comes back when they are done.
-ghost use Rattle.std.specs.Prelude.{◌≡◌, ◌⊎◌, ◌≤◌, length, IfOk, IfErr};
+ghost use Rattle.std.specs.Prelude.{◌≡◌, ◌⊎◌, ◌≤◌, length, count_by, IsTrue, IfOk, IfErr};
 ghost use Rattle.epoch_cells.specs.declared.fault.Fault.TheVariants.{NoMemory, TableFull};
+ghost use Rattle.epoch_shared.specs.declared.start.Step.{Step};
+ghost use Rattle.epoch_shared.specs.declared.start.Step.TheVariants.{Thread};
+ghost use Rattle.epoch_shared.specs.Parts.{EndsStep, HasParts};
 
 use epoch_cells::Fault;
 use std::alloc::Global;
@@ -18,9 +21,12 @@ pub(crate) enum Step {
 /// What one thread does with what threads share, `H`. Threads are started over this trait alone, since all that is
 /// known of a crew would be more than the checker compares.
 pub(crate) trait Round<H> {
+    /// This step was taken.
+    ghost has_taken: { Self → Step → Type 0 };
+
     /// Takes this step, with a half of its own of what is shared.
     fn take_part(&self, step: Step, root: &H) -> Result<(), Fault>
-        ensures refused { IfErr result (λ fault. (fault ≡ NoMemory) ⊎ (fault ≡ TableFull)) };
+        ensures { EndsStep (has_taken self.now step) result };
 }
 
 // Starts all threads, and comes back when they are done. Returns how many took part.
@@ -31,10 +37,12 @@ fn start_all<R: Threads + Sync, H: Sync, W: Round<H> + Sync>(
     root: &H,
     work: &W,
 ) -> Result<usize, Fault>
-    ensures most { IfOk result (λ done. done ≤ threads) }
+    ensures most { IfOk result (HasParts (λ number. W.has_taken work.now (Thread number)) threads) }
     ensures refused { IfErr result (λ fault. fault ≡ NoMemory) }
 {
-    let part = |number: usize| work.take_part(Step::Thread(number), root).is_ok();
+    let part = |number: usize| -> bool
+        ensures { IsTrue result → W.has_taken work.entry.now (Thread number) }
+    { work.take_part(Step::Thread(number), root).is_ok() };
     match thread::map_indices(rt, alloc, threads as usize, &part) {
         Ok(done) => Ok(how_many(done.as_slice())),
         Err(_) => Err(Fault::NoMemory),
@@ -49,7 +57,7 @@ pub(crate) fn run_steps<R: Threads + Sync, H: Sync, W: Round<H> + Sync>(
     root: &H,
     work: &W,
 ) -> Result<usize, Fault>
-    ensures most { IfOk result (λ done. done ≤ threads) }
+    ensures most { IfOk result (HasParts (λ number. W.has_taken work.now (Thread number)) threads) }
     ensures refused { IfErr result (λ fault. (fault ≡ NoMemory) ⊎ (fault ≡ TableFull)) }
 {
     work.take_part(Step::Before, root)?;
@@ -60,7 +68,8 @@ pub(crate) fn run_steps<R: Threads + Sync, H: Sync, W: Round<H> + Sync>(
 
 // How many are `true`.
 fn how_many(all: &[bool]) -> usize
-    ensures { result ≤ length all.now }
+    ensures most { result ≤ length all.now }
+    ensures count { result ≡ count_by (λ is_done. is_done) all.now }
 {
     all.iter().filter(|is_done| **is_done).count()
 }

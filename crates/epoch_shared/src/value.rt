@@ -1,8 +1,9 @@
 //! One value, which is read all the time and replaced now and then.
-ghost use Rattle.std.specs.Prelude.{◌≡◌, ◌⊎◌, true, Ok, IsSome, IfErr, IfSome};
+ghost use Rattle.std.specs.Prelude.{◌≡◌, ◌⊎◌, true, false, Ok, IsOk, IsSome, IfErr, IfSome};
 ghost use Rattle.std.specs.Fn.{CalledAt, FnOnceReturnsAt};
 ghost use Rattle.epoch_cells.specs.declared.fault.Fault.TheVariants.{CellsFull, NoMemory, TableFull, TriesOut};
-ghost use Rattle.epoch_shared.specs.Updates.{GoesOnOnce, Makes, MakesLast};
+ghost use Rattle.epoch_shared.specs.Contents.{IsInNode};
+ghost use Rattle.epoch_shared.specs.Updates.{GoesOnOnce, Makes, MakesLast, StopsOnce};
 
 use crate::leaving::leave;
 use epoch_cells::{Fault, Refused};
@@ -18,14 +19,18 @@ pub(crate) const TRIES: u32 = 1_000;
 
 /// One thread's calls of a value that threads share. A call pins for as long as it lasts, and for no longer.
 pub trait SharedValue<T> {
+    /// A node was made of this value. If the type is a parameter, nothing but the calls below shows it.
+    ghost is_value: { T → Type 0 };
+
     /// Looks at the present value, and returns what `look` makes of it. `None`: there is no value yet.
     ///
     /// It writes nothing that threads share, except that the thread is pinned. The value stays as it is until `look`
     /// returns, whatever other threads do.
     fn read<R: Drop, F: FnOnce(&T) -> R + Drop>(&mut self, look: F) -> Option<R>
         requires { F.IsAlwaysCallable look }
-        // What a read returns is what its closure returned at some value.
-        ensures given { IfSome result (λ made. (value : T) × FnOnceReturnsAt F.FnOnce look value made) };
+        // What a read returns is what its closure returned at a value of which a node was made.
+        ensures given { IfSome result
+            (λ made. (value : T) × is_value value × FnOnceReturnsAt F.FnOnce look value made) };
 
     /// Puts the value in the place of the present one, which is dropped once no thread reads it any more.
     ///
@@ -33,7 +38,9 @@ pub trait SharedValue<T> {
     /// `NoMemory`: another allocation was refused, or no place to wait was seen. The value comes back, and the present
     /// one stays.
     fn replace(&mut self, value: T) -> Result<(), Refused<T>>
-        // A value that doesn't replace the present one is handed back, with `CellsFull` or `NoMemory`.
+        // Of a value that replaces the present one, a node was made. If it doesn't, it is handed back, with `CellsFull`
+        // or `NoMemory`.
+        ensures put { IsOk result → is_value value }
         ensures handed_back { IfErr result (λ refused. refused.value ≡ value) }
         ensures refused { IfErr result (λ refused. (refused.fault ≡ CellsFull) ⊎ (refused.fault ≡ NoMemory)) };
 
@@ -44,9 +51,10 @@ pub trait SharedValue<T> {
     /// refused, or no place to wait was seen. The present value stays.
     fn update<F: FnMut(&T) -> Option<T> + Drop>(&mut self, change: F) -> Result<bool, Fault>
         requires { F.IsAlwaysCallable change }
-        // An update that replaces the value has called its function at some values, one after another, and the last
-        // call returned a value. An update is refused only with `NoMemory` or `TriesOut`.
-        ensures made { result ≡ Ok true → MakesLast (CalledAt F.FnMut) change }
+        // An update that replaces the value has called its function at values of which nodes were made, one after
+        // another, and the last call returned a value of which one was made, too. An update is refused only with
+        // `NoMemory` or `TriesOut`.
+        ensures made { result ≡ Ok true → MakesLast is_value (CalledAt F.FnMut) change }
         ensures refused { IfErr result (λ fault. (fault ≡ NoMemory) ⊎ (fault ≡ TriesOut)) };
 }
 
@@ -146,15 +154,21 @@ impl<'a, 'q, 's, J: PostSet, N: Wraps> ValueHold<'a, 'q, 's, J, N> {
     }
 
     fn replace_once(&mut self, value: N::Value) -> Result<(), Refused<N::Value>>
+        ensures put { IsOk result → IsInNode N.inside value }
         ensures handed_back { IfErr result (λ refused. refused.value ≡ value) }
         ensures refused { IfErr result (λ refused. (refused.fault ≡ CellsFull) ⊎ (refused.fault ≡ NoMemory)) }
     {
         let at = self.at;
-        replace_at(&mut self.session, &mut self.writer, at, value)
+        let guard = self.session.pin();
+        let put = put(&mut self.writer, &guard, at, value);
+        self.session.unpin(guard);
+        put
     }
 }
 
 impl<J: PostSet, N: Wraps> SharedValue<N::Value> for ValueHold<'_, '_, '_, J, N> {
+    ghost is_value = { IsInNode N.inside };
+
     fn read<R: Drop, F: FnOnce(&N::Value) -> R + Drop>(&mut self, look: F) -> Option<R> {
         let at = self.at;
         let store = self.writer.store();
@@ -186,7 +200,10 @@ impl<J: PostSet, N: Wraps> SharedValue<N::Value> for ValueHold<'_, '_, '_, J, N>
         let mut change = change;
         let at = self.at;
         for _ in 0..TRIES {
-            match update_at(&mut self.session, &mut self.writer, at, &mut change) {
+            let guard = self.session.pin();
+            let changed = change_once(&mut self.writer, &guard, at, &mut change);
+            self.session.unpin(guard);
+            match changed {
                 Err(Fault::TriesOut | Fault::CellsFull) => thread::yield_now(),
                 done => return done,
             }
@@ -203,31 +220,13 @@ fn look_at<J: PostSet, N: Wraps, R: Drop, F: FnOnce(&N::Value) -> R + Drop>(
     look: F,
 ) -> Option<R>
     requires { F.IsAlwaysCallable look }
-    ensures given { IfSome result (λ made. (value : N.Value) × FnOnceReturnsAt F.FnOnce look value made) }
+    ensures given { IfSome result
+        (λ made. (value : N.Value) × IsInNode N.inside value × FnOnceReturnsAt F.FnOnce look value made) }
 {
     match store.get(store.load(at, SeqCst, guard), guard) {
         Some(node) => Some(look(node.value())),
         None => None,
     }
-}
-
-// Pins, and puts the value behind the pointer.
-fn replace_at<J: PostSet, N: Wraps>(
-    session: &mut Session<'_, J>,
-    writer: &mut Writer<'_, '_, J, N>,
-    at: &Atomic<N>,
-    value: N::Value,
-) -> Result<(), Refused<N::Value>>
-    requires free { IsSome session.old.reader }
-    ensures free { IsSome session.new.reader }
-    ensures store { writer.new.store ≡ writer.old.store }
-    ensures handed_back { IfErr result (λ refused. refused.value ≡ value) }
-    ensures refused { IfErr result (λ refused. (refused.fault ≡ CellsFull) ⊎ (refused.fault ≡ NoMemory)) }
-{
-    let guard = session.pin();
-    let put = put(writer, &guard, at, value);
-    session.unpin(guard);
-    put
 }
 
 // Puts the value behind the pointer, and retires the one before.
@@ -238,6 +237,7 @@ fn put<J: PostSet, N: Wraps>(
     value: N::Value,
 ) -> Result<(), Refused<N::Value>>
     ensures store { writer.new.store ≡ writer.old.store }
+    ensures put { IsOk result → IsInNode N.inside value }
     ensures handed_back { IfErr result (λ refused. refused.value ≡ value) }
     ensures refused { IfErr result (λ refused. (refused.fault ≡ CellsFull) ⊎ (refused.fault ≡ NoMemory)) }
 {
@@ -258,28 +258,6 @@ fn put<J: PostSet, N: Wraps>(
     }
 }
 
-// Pins, and tries once to replace the value behind the pointer by what `change` makes of it.
-fn update_at<J: PostSet, N: Wraps, F: FnMut(&N::Value) -> Option<N::Value>>(
-    session: &mut Session<'_, J>,
-    writer: &mut Writer<'_, '_, J, N>,
-    at: &Atomic<N>,
-    change: &mut F,
-) -> Result<bool, Fault>
-    requires free { IsSome session.old.reader }
-    requires callable { F.IsAlwaysCallable change.old }
-    ensures free { IsSome session.new.reader }
-    ensures callable { F.IsAlwaysCallable change.new }
-    ensures calls { GoesOnOnce (CalledAt F.FnMut) change.old change.new }
-    ensures made { result ≡ Ok true → Makes (CalledAt F.FnMut) change.old }
-    ensures refused { IfErr result
-        (λ fault. (fault ≡ CellsFull) ⊎ (fault ≡ NoMemory) ⊎ (fault ≡ TriesOut)) }
-{
-    let guard = session.pin();
-    let changed = change_once(writer, &guard, at, change);
-    session.unpin(guard);
-    changed
-}
-
 // Tries once to replace the value behind the pointer by what `change` makes of it.
 fn change_once<J: PostSet, N: Wraps, F: FnMut(&N::Value) -> Option<N::Value>>(
     writer: &mut Writer<'_, '_, J, N>,
@@ -290,8 +268,9 @@ fn change_once<J: PostSet, N: Wraps, F: FnMut(&N::Value) -> Option<N::Value>>(
     requires { F.IsAlwaysCallable change.old }
     ensures store { writer.new.store ≡ writer.old.store }
     ensures callable { F.IsAlwaysCallable change.new }
-    ensures calls { GoesOnOnce (CalledAt F.FnMut) change.old change.new }
-    ensures made { result ≡ Ok true → Makes (CalledAt F.FnMut) change.old }
+    ensures calls { GoesOnOnce (IsInNode N.inside) (CalledAt F.FnMut) change.old change.new }
+    ensures made { result ≡ Ok true → Makes (IsInNode N.inside) (CalledAt F.FnMut) change.old }
+    ensures kept { result ≡ Ok false → StopsOnce (IsInNode N.inside) (CalledAt F.FnMut) change.old change.new }
     ensures refused { IfErr result
         (λ fault. (fault ≡ CellsFull) ⊎ (fault ≡ NoMemory) ⊎ (fault ≡ TriesOut)) }
 {

@@ -1,15 +1,16 @@
 //! The calls of a map, under a guard.
-ghost use Rattle.std.specs.Prelude.{◌≡◌, ◌⊎◌, None, Some, IsSome, IsTrue, IfErr, IfOk, IfSome};
+ghost use Rattle.std.specs.Prelude.{◌≡◌, ◌⊎◌, true, false, None, Some, Ok, IsOk, IsSome, IsTrue, IfErr, IfOk, IfSome};
 ghost use Rattle.std.specs.Fn.{FnOnceReturnsAt, FnReturnsAt};
 ghost use Rattle.std.specs.declared.cmp.Ordering.TheVariants.{Equal};
 ghost use Rattle.epoch_map.specs.Placing.{KeepsOrRetires};
 ghost use Rattle.epoch_cells.specs.declared.fault.Fault.TheVariants.{CellsFull, NoMemory, TriesOut};
-ghost use Rattle.epoch_shared.specs.Keys.{IsOfNode};
+ghost use Rattle.epoch_shared.specs.Contents.{HasEntry, IsInNode, IsOfNode, SeesAt};
+ghost use Rattle.epoch_shared.specs.Showing.{CalledWith, GoesOver};
 
 use crate::map::node::KeepsEntry;
 use epoch_cells::{Fault, Refused};
 use epoch_lend::readers::posts::PostSet;
-use epoch_lend::session::{LendingGuard, Session};
+use epoch_lend::session::LendingGuard;
 use epoch_lend_pointers::Writer;
 use epoch_map::{GrowingMap, MapKey, Seeks};
 
@@ -55,7 +56,8 @@ pub(crate) fn see_in<'s, J: PostSet, N: KeepsEntry, R: Drop, F: Fn(&N::Value) ->
     look: &F,
 ) -> Option<R>
     requires { F.IsAlwaysCallable look.now }
-    ensures given { IfSome result (λ made. (value : N.Value) × FnReturnsAt F.Fn look.now value made) }
+    ensures given { IfSome result
+        (SeesAt (IsOfNode N.key N.entry) (λ there. N.Key.cmp there key.now ≡ Equal) (FnReturnsAt F.Fn look.now)) }
 {
     match map.get(guard, key) {
         Some(entry) => Some(look(entry.value())),
@@ -97,8 +99,9 @@ pub(crate) fn insert_in<'s, J: PostSet, N: KeepsEntry, R: Drop, F: Fn(&N::Value)
     requires callable { F.IsAlwaysCallable look.now }
     requires own { writer.old.store.now.number ≡ map.now.number }
     ensures store { writer.new.store ≡ writer.old.store }
+    ensures inserted { result ≡ Ok None → IsInNode N.entry pair }
     ensures given { IfOk result (λ seen. IfSome seen
-        (λ made. (value : N.Value) × FnReturnsAt F.Fn look.now value made)) }
+        (SeesAt (IsOfNode N.key N.entry) (λ there. N.Key.cmp there pair.0 ≡ Equal) (FnReturnsAt F.Fn look.now))) }
     ensures handed_back { IfErr result (λ back. KeepsOrRetires pair back) }
     ensures refused { IfErr result (λ back. (back.fault ≡ NoMemory) ⊎ (back.fault ≡ CellsFull)
         ⊎ (back.fault ≡ TriesOut)) }
@@ -125,6 +128,9 @@ pub(crate) fn put_in<'s, J: PostSet, N: KeepsEntry>(
 ) -> Result<bool, Refused<Option<(N::Key, N::Value)>>>
     requires own { writer.old.store.now.number ≡ map.now.number }
     ensures store { writer.new.store ≡ writer.old.store }
+    ensures put { IsOk result → IsInNode N.entry pair }
+    ensures replaced { result ≡ Ok true
+        → HasEntry (IsOfNode N.key N.entry) (λ there. N.Key.cmp there pair.0 ≡ Equal) }
     ensures handed_back { IfErr result (λ back. KeepsOrRetires pair back) }
     ensures refused { IfErr result (λ back. (back.fault ≡ NoMemory) ⊎ (back.fault ≡ CellsFull)
         ⊎ (back.fault ≡ TriesOut)) }
@@ -132,7 +138,7 @@ pub(crate) fn put_in<'s, J: PostSet, N: KeepsEntry>(
     let (key, value) = pair;
     let number = key.number();
     match map.put(writer, guard, N::with(key, value)) {
-        Ok(Some(_)) => Ok(true),
+        Ok(Some(_before)) => Ok(true),
         Ok(None) => {
             keep_within(map, most, writer, guard, number);
             Ok(false)
@@ -142,40 +148,47 @@ pub(crate) fn put_in<'s, J: PostSet, N: KeepsEntry>(
 }
 
 // Removes the key.
-pub(crate) fn take_out<'s, J: PostSet, N: KeepsEntry, Q: Seeks<N::Key>>(
+pub(crate) fn remove_in<'s, J: PostSet, N: KeepsEntry, Q: Seeks<N::Key>>(
     map: &GrowingMap<'_, 's, J, N>,
-    session: &mut Session<'_, J>,
     writer: &mut Writer<'_, 's, J, N>,
+    guard: &LendingGuard<'_, J>,
     key: &Q,
 ) -> Result<bool, Fault>
-    requires free { IsSome session.old.reader }
     requires own { writer.old.store.now.number ≡ map.now.number }
-    ensures free { IsSome session.new.reader }
     ensures store { writer.new.store ≡ writer.old.store }
+    ensures removed { result ≡ Ok true
+        → HasEntry (IsOfNode N.key N.entry) (λ there. Q.compared there key.now ≡ Equal) }
     ensures refused { IfErr result (λ fault. (fault ≡ NoMemory) ⊎ (fault ≡ TriesOut)) }
 {
-    let guard = session.pin();
-    let removed = match map.remove(writer, &guard, key) {
-        Ok(there) => Ok(there.is_some()),
+    match map.remove(writer, guard, key) {
+        Ok(Some(_node)) => Ok(true),
+        Ok(None) => Ok(false),
         Err(fault) => Err(fault),
-    };
-    session.unpin(guard);
-    removed
+    }
+}
+
+// Calls the closure with this key and this value.
+fn show<K, V, R, F: FnMut(&K, &V) -> R>(each: &mut F, key: &K, value: &V) -> R
+    requires { F.IsAlwaysCallable each.old }
+    ensures callable { F.IsAlwaysCallable each.new }
+    ensures called { CalledWith F.FnMut each.old key.now value.now result each.new }
+{
+    each(key, value)
 }
 
 // Calls the closure with each entry.
 pub(crate) fn go_over<'g, 'q, 'd, 's, J: PostSet, N: KeepsEntry + 'g, F>(
     map: &GrowingMap<'q, 's, J, N>,
     guard: &'g LendingGuard<'d, J>,
-    each: F,
+    each: &mut F,
 )
 where
-    F: FnMut(&N::Key, &N::Value) + Drop,
-    requires { F.IsAlwaysCallable each }
+    F: FnMut(&N::Key, &N::Value),
+    requires { F.IsAlwaysCallable each.old }
+    ensures shown { GoesOver F.FnMut (IsOfNode N.key N.entry) each.old each.new }
 {
-    let mut each = each;
     for entry in map.iter(guard) {
-        each(entry.key(), entry.value());
+        show(each, entry.key(), entry.value());
     }
 }
 
@@ -184,18 +197,18 @@ pub(crate) fn retain_in<'g, 'q, 'd, 's, J: PostSet, N: KeepsEntry + 'g, F>(
     map: &GrowingMap<'q, 's, J, N>,
     writer: &mut Writer<'_, 's, J, N>,
     guard: &'g LendingGuard<'d, J>,
-    keep: F,
+    keep: &mut F,
 ) -> Result<(), Fault>
 where
-    F: FnMut(&N::Key, &N::Value) -> bool + Drop,
-    requires callable { F.IsAlwaysCallable keep }
+    F: FnMut(&N::Key, &N::Value) -> bool,
+    requires callable { F.IsAlwaysCallable keep.old }
     requires own { writer.old.store.now.number ≡ map.now.number }
     ensures store { writer.new.store ≡ writer.old.store }
+    ensures shown { GoesOver F.FnMut (IsOfNode N.key N.entry) keep.old keep.new }
     ensures refused { IfErr result (λ fault. (fault ≡ NoMemory) ⊎ (fault ≡ TriesOut)) }
 {
-    let mut keep = keep;
     for entry in map.iter(guard) {
-        if !keep(entry.key(), entry.value()) {
+        if !show(keep, entry.key(), entry.value()) {
             let _ = map.remove(writer, &*guard, entry.key())?;
         }
     }

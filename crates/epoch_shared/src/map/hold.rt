@@ -1,7 +1,7 @@
 //! A map that threads share, and what one thread has for its look-ups.
 ghost use Rattle.std.specs.Prelude.{◌≡◌, IsSome, IfErr};
 ghost use Rattle.epoch_cells.specs.declared.fault.Fault.TheVariants.{NoMemory, TableFull};
-ghost use Rattle.epoch_shared.specs.Keys.{IsOfNode};
+ghost use Rattle.epoch_shared.specs.Contents.{IsOfNode};
 
 use crate::map::MapReads;
 use crate::map::calls::{go_over, is_there, look_up};
@@ -68,6 +68,8 @@ impl<'a, 'q, 's, J: PostSet, N: KeepsEntry> LookHold<'a, 'q, 's, J, N> {
 impl<J: PostSet, N: KeepsEntry> MapReads<N::Key, N::Value> for LookHold<'_, '_, '_, J, N> {
     ghost is_entry = { IsOfNode N.key N.entry };
 
+    ghost has_counted = { λ _ _. Unit {0} };
+
     fn get<Q: Seeks<N::Key>, R: Drop, F: FnOnce(&N::Value) -> R + Drop>(
         &mut self,
         key: &Q,
@@ -89,9 +91,10 @@ impl<J: PostSet, N: KeepsEntry> MapReads<N::Key, N::Value> for LookHold<'_, '_, 
     }
 
     fn for_each<F: FnMut(&N::Key, &N::Value) + Drop>(&mut self, each: F) {
+        let mut each = each;
         let map = self.map;
         let guard = self.session.pin();
-        go_over(map, &guard, each);
+        go_over(map, &guard, &mut each);
         self.session.unpin(guard);
     }
 

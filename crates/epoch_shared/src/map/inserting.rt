@@ -1,8 +1,10 @@
 //! What one thread has to give keys of a map values.
-ghost use Rattle.std.specs.Prelude.{◌≡◌, ◌⊎◌, None, Ok, IsSome, IfErr, IfOk, IfSome};
+ghost use Rattle.std.specs.Prelude.{◌≡◌, ◌⊎◌, None, Some, Ok, IsSome, IfErr, IfOk, IfSome};
 ghost use Rattle.std.specs.Fn.{FnReturnsAt};
+ghost use Rattle.std.specs.declared.cmp.Ordering.TheVariants.{Equal};
 ghost use Rattle.epoch_map.specs.Placing.{KeepsOrRetires};
 ghost use Rattle.epoch_cells.specs.declared.fault.Fault.TheVariants.{CellsFull, NoMemory, TableFull, TriesOut};
+ghost use Rattle.epoch_shared.specs.Contents.{IsInNode, IsOfNode, SeesAt};
 
 use crate::leaving::leave;
 use crate::map::MapInserts;
@@ -70,9 +72,12 @@ impl<'a, 'q, 's, J: PostSet, N: KeepsEntry> InsertHold<'a, 'q, 's, J, N> {
         requires make { M.IsAlwaysCallable make }
         requires look { F.IsAlwaysCallable look.now }
         ensures given { IfOk result (λ seen. IfSome seen
-            (λ made. (value : N.Value) × FnReturnsAt F.Fn look.now value made)) }
+            (λ made. (value : N.Value) × FnReturnsAt F.Fn look.now value made
+            × (M.post make (Some value)
+            ⊎ ((there : N.Key) × IsOfNode N.key N.entry there value × (N.Key.cmp there key ≡ Equal))))) }
         ensures none { result ≡ Ok None → M.post make None }
-        ensures handed_back { IfErr result (λ back. IfSome back.value (λ pair. pair.0 ≡ key)) }
+        ensures handed_back { IfErr result
+            (λ back. (value : N.Value) × M.post make (Some value) × KeepsOrRetires (key, value) back) }
         ensures refused { IfErr result (λ back. (back.fault ≡ NoMemory) ⊎ (back.fault ≡ CellsFull)
             ⊎ (back.fault ≡ TriesOut)) }
     {
@@ -91,7 +96,8 @@ impl<'a, 'q, 's, J: PostSet, N: KeepsEntry> InsertHold<'a, 'q, 's, J, N> {
     // Looks at the value of this key, with a closure that may be called again.
     fn see<R: Drop, F: Fn(&N::Value) -> R>(&mut self, key: &N::Key, look: &F) -> Option<R>
         requires { F.IsAlwaysCallable look.now }
-        ensures given { IfSome result (λ made. (value : N.Value) × FnReturnsAt F.Fn look.now value made) }
+        ensures given { IfSome result
+            (SeesAt (IsOfNode N.key N.entry) (λ there. N.Key.cmp there key.now ≡ Equal) (FnReturnsAt F.Fn look.now)) }
     {
         let map = self.map;
         let guard = self.session.pin();
@@ -107,8 +113,9 @@ impl<'a, 'q, 's, J: PostSet, N: KeepsEntry> InsertHold<'a, 'q, 's, J, N> {
         look: &F,
     ) -> Result<Option<R>, Refused<Option<(N::Key, N::Value)>>>
         requires { F.IsAlwaysCallable look.now }
+        ensures inserted { result ≡ Ok None → IsInNode N.entry pair }
         ensures given { IfOk result (λ seen. IfSome seen
-            (λ made. (value : N.Value) × FnReturnsAt F.Fn look.now value made)) }
+            (SeesAt (IsOfNode N.key N.entry) (λ there. N.Key.cmp there pair.0 ≡ Equal) (FnReturnsAt F.Fn look.now))) }
         ensures handed_back { IfErr result (λ back. KeepsOrRetires pair back) }
         ensures refused { IfErr result (λ back. (back.fault ≡ NoMemory) ⊎ (back.fault ≡ CellsFull)
             ⊎ (back.fault ≡ TriesOut)) }
@@ -123,13 +130,18 @@ impl<'a, 'q, 's, J: PostSet, N: KeepsEntry> InsertHold<'a, 'q, 's, J, N> {
 }
 
 impl<J: PostSet, N: KeepsEntry> MapInserts<N::Key, N::Value> for InsertHold<'_, '_, '_, J, N> {
+    ghost is_entry = { IsOfNode N.key N.entry };
+
+    ghost is_made = { λ key value. IsInNode N.entry (key, value) };
+
     fn insert(
         &mut self,
         key: N::Key,
         value: N::Value,
     ) -> Result<bool, Refused<Option<(N::Key, N::Value)>>> {
         match self.insert_or_see((key, value), &|_there| true) {
-            Ok(there) => Ok(there.is_none()),
+            Ok(Some(_)) => Ok(false),
+            Ok(None) => Ok(true),
             Err(refused) => Err(refused),
         }
     }

@@ -14,7 +14,8 @@ pub(crate) trait KeepsEntry: MapNode {
 
     /// Makes a node of this key with this value.
     fn with(key: Self::Key, value: Self::Value) -> Self
-        ensures { entry result ≡ (key, value) };
+        ensures key { Self.key result ≡ key }
+        ensures entry { entry result ≡ (key, value) };
 
     /// Returns the value.
     fn value(&self) -> &Self::Value

@@ -1,5 +1,5 @@
 //! What one thread has for its calls of a map, as one.
-ghost use Rattle.std.specs.Prelude.{◌≡◌};
+ghost use Rattle.std.specs.Prelude.{◌≡◌, ℕ};
 
 use crate::map::{MapInserts, MapReads, MapRemovals};
 use epoch_cells::{Fault, Refused};
@@ -16,6 +16,8 @@ pub(crate) struct MapParts<'l, 'i, 'r, L, I, R> {
 
 impl<K: MapKey, V, L: MapReads<K, V>, I, R> MapReads<K, V> for MapParts<'_, '_, '_, L, I, R> {
     ghost is_entry = { L.is_entry };
+
+    ghost has_counted = { λ parts count. L.has_counted parts.looks.now count };
 
     fn get<Q: Seeks<K>, A: Drop, F: FnOnce(&V) -> A + Drop>(
         &mut self,
@@ -39,6 +41,10 @@ impl<K: MapKey, V, L: MapReads<K, V>, I, R> MapReads<K, V> for MapParts<'_, '_, 
 }
 
 impl<K: MapKey, V, L, I: MapInserts<K, V>, R> MapInserts<K, V> for MapParts<'_, '_, '_, L, I, R> {
+    ghost is_entry = { I.is_entry };
+
+    ghost is_made = { I.is_made };
+
     fn insert(&mut self, key: K, value: V) -> Result<bool, Refused<Option<(K, V)>>> {
         self.inserts.insert(key, value)
     }
@@ -58,6 +64,8 @@ impl<K: MapKey, V, L, I: MapInserts<K, V>, R> MapInserts<K, V> for MapParts<'_, 
 }
 
 impl<K: MapKey, V, L, I, R: MapRemovals<K, V>> MapRemovals<K, V> for MapParts<'_, '_, '_, L, I, R> {
+    ghost is_entry = { R.is_entry };
+
     fn remove<Q: Seeks<K>>(&mut self, key: &Q) -> Result<bool, Fault> {
         self.removals.remove(key)
     }

@@ -1,10 +1,11 @@
 //! What one thread has to remove entries of a map.
 ghost use Rattle.std.specs.Prelude.{◌≡◌, ◌⊎◌, IsSome, IfErr};
 ghost use Rattle.epoch_cells.specs.declared.fault.Fault.TheVariants.{NoMemory, TableFull};
+ghost use Rattle.epoch_shared.specs.Contents.{IsOfNode};
 
 use crate::leaving::leave;
 use crate::map::MapRemovals;
-use crate::map::calls::{retain_in, take_out};
+use crate::map::calls::{remove_in, retain_in};
 use crate::map::hold::MapRoot;
 use crate::map::node::KeepsEntry;
 use epoch_cells::Fault;
@@ -56,18 +57,24 @@ impl<'a, 'q, 's, J: PostSet, N: KeepsEntry> RemoveHold<'a, 'q, 's, J, N> {
 }
 
 impl<J: PostSet, N: KeepsEntry> MapRemovals<N::Key, N::Value> for RemoveHold<'_, '_, '_, J, N> {
+    ghost is_entry = { IsOfNode N.key N.entry };
+
     fn remove<Q: Seeks<N::Key>>(&mut self, key: &Q) -> Result<bool, Fault> {
         let map = self.map;
-        take_out(map, &mut self.session, &mut self.writer, key)
+        let guard = self.session.pin();
+        let removed = remove_in(map, &mut self.writer, &guard, key);
+        self.session.unpin(guard);
+        removed
     }
 
     fn retain<F: FnMut(&N::Key, &N::Value) -> bool + Drop>(
         &mut self,
         keep: F,
     ) -> Result<(), Fault> {
+        let mut keep = keep;
         let map = self.map;
         let guard = self.session.pin();
-        let retained = retain_in(map, &mut self.writer, &guard, keep);
+        let retained = retain_in(map, &mut self.writer, &guard, &mut keep);
         self.session.unpin(guard);
         retained
     }

@@ -1,8 +1,11 @@
 use Rattle.std.specs.Fn.{CalledAt}
+use Rattle.epoch_shared.specs.Contents.{IsInNode}
 use Rattle.epoch_shared.proofs.Updates.{goes_on}
 use Rattle.epoch_shared.proofs.value.ValueHoldSharedValueValue.update.Goals as goal
 
 -- this try has called the closure once more, or not at all
 pub loop-preserved : goal.loop-preserved
-loop-preserved g c =
-    (c.update_at.ensures.callable, goes_on (CalledAt g.F.FnMut) c.loop.invariant.1 c.update_at.ensures.calls)
+loop-preserved g c = (
+  c.change_once.ensures.callable,
+  goes_on (IsInNode g.N.Wraps.inside) (CalledAt g.F.FnMut) c.loop.invariant.1 c.change_once.ensures.calls,
+)

@@ -1,0 +1,6 @@
+use Rattle.epoch_shared.proofs.map.inserting.InsertHoldMapInsertsKeyValue.insert.Goals as goal
+
+-- the entry is the one that was found
+pub returns-in-Ok-Some-clause-found : goal.returns-in-Ok-Some-clause-found
+returns-in-Ok-Some-clause-found g c = λ _.
+    let seen = c.insert_or_see.ensures.given in (seen.0, seen.1, seen.2, seen.3)
