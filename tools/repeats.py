@@ -16,7 +16,7 @@ import re
 import sys
 
 LIST = 5
-CLAUSES = 998
+CLAUSES = 999
 LISTS = 31
 LEMMAS = 0
 STATEMENTS = 24

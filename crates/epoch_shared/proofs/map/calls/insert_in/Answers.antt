@@ -10,8 +10,8 @@ returns-in-Ok-Some-clause-given g c = (
   c.value.result.now,
   (c.in-Ok-Some.there.now, refl, sym c.value.ensures),
   subst
-      (λ key. g.N.MapNode.Key.cmp (g.N.MapNode.key c.in-Ok-Some.there.now) key ≡ Equal)
+      (λ key. g.N.Key.Ord.cmp (g.N.MapNode.key c.in-Ok-Some.there.now) key ≡ Equal)
       c.with.ensures.key
-      c.in-Ok-Some.ensures.found,
+      (rw c.in-Ok-Some.field-0-is at c.in-Ok-Some.ensures.found),
   says_at g.F.Fn c.look.ensures refl,
 )

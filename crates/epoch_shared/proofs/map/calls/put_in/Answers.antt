@@ -9,7 +9,7 @@ returns-in-Ok-Some-clause-replaced g c = λ _. (
   (g.N.KeepsEntry.entry c.in-Ok-Some._before.now).1,
   (c.in-Ok-Some._before.now, refl, refl),
   subst
-      (λ key. g.N.MapNode.Key.cmp (g.N.MapNode.key c.in-Ok-Some._before.now) key ≡ Equal)
+      (λ key. g.N.Key.Ord.cmp (g.N.MapNode.key c.in-Ok-Some._before.now) key ≡ Equal)
       c.with.ensures.key
-      c.in-Ok-Some.ensures.found,
+      (rw c.in-Ok-Some.field-0-is at c.in-Ok-Some.ensures.found),
 )

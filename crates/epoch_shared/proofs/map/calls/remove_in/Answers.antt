@@ -7,5 +7,5 @@ returns-in-Ok-Some-clause-removed g c = λ _. (
   g.N.MapNode.key c.in-Ok-Some._node.now,
   (g.N.KeepsEntry.entry c.in-Ok-Some._node.now).1,
   (c.in-Ok-Some._node.now, refl, refl),
-  c.in-Ok-Some.ensures.found,
+  rw c.in-Ok-Some.field-0-is at c.in-Ok-Some.ensures.found,
 )

@@ -6,6 +6,6 @@ use Rattle.epoch_shared.proofs.value.ValueHoldSharedValueValue.update.Goals as g
 -- this try has called the closure once more, or not at all
 pub loop-preserved : goal.loop-preserved
 loop-preserved g c = (
-  c.change_once.ensures.callable,
-  goes_on (IsInNode g.N.Wraps.inside) (CalledAt g.F.FnMut) c.loop.invariant.1 c.change_once.ensures.calls,
+  c.change_once-changed.ensures.callable,
+  goes_on (IsInNode g.N.Wraps.inside) (CalledAt g.F.FnMut) c.loop.invariant.1 c.change_once-changed.ensures.calls,
 )
