@@ -120,7 +120,7 @@ fn compare<'s, J: PostSet>(
         let wanted = call_model(rt, &mut model, call_of(number));
         let seen = answer(rt, map, part, call_of(number));
         want(rt, "a call on a growing map", seen, wanted);
-        if model.len() > buckets + buckets / 3 {
+        if model.len() > buckets.wrapping_add(buckets / 3) {
             buckets = buckets.wrapping_mul(2);
         }
         want(rt, "how many buckets there are", map.buckets(), buckets);
