@@ -1,7 +1,7 @@
 -- Calls of a closure with entries, one after another.
 use Rattle.std.proofs.Common.{◌++◌, [], ◌∷◌}
 use Rattle.std.proofs.lemmas.Fn.{FoldsTo-push}
-use Rattle.std.specs.Fn.{Called, Mut}
+use Rattle.std.specs.Fn.{Mut}
 use denote.Ref.{Bor}
 use Rattle.epoch_shared.specs.Showing.{CalledWith, GoesOver, ShowsEntry}
 

@@ -1,5 +1,5 @@
 -- Calls of an update's closure, one after another.
-use Rattle.std.proofs.Common.{◌⊎◌, inl, inr, Option, List, [], ◌∷◌, refl, sym, subst}
+use Rattle.std.proofs.Common.{inl, inr, Option, List, [], ◌∷◌, refl, sym, subst}
 use Rattle.std.specs.List.{FoldsTo}
 use Rattle.epoch_shared.specs.Updates.{CallsAt, GoesOn, GoesOnOnce}
 
