@@ -1,7 +1,7 @@
 -- What a call of an `Atomic` did to its word: the atomic steps that it made.
 use Rattle.std.specs.Prelude.{◌≡◌, ℕ, zero, suc, ◌+◌, ◌%◌, ◌⊎◌, Option, Some, None, IsSome, bit_and, bit_or, bit_xor}
 use Rattle.epoch_cells.specs.declared.cells.name.Name.{Name}
-use Rattle.epoch_atomic.specs.Pointers.{tagged_word, tag_in, IsPointerWord, Reads, BecomesWord}
+use Rattle.epoch_atomic.specs.Pointers.{tagged_word, IsPointerWord, Reads, BecomesWord}
 use Rattle.epoch_atomic.specs.declared.atomic.owned.Owned.{Owned}
 use Rattle.epoch_atomic.specs.declared.atomic.shared.Shared.{Shared}
 use Rattle.epoch_atomic.specs.declared.atomic.update.TagChange.{TagChange}
@@ -38,10 +38,9 @@ CopiesWord did made = (word : ℕ) × did (Loads word) × made (Begins word)
 abbrev pub LoadsPointer : (align : ℕ) → (WordStep → Type 0) → Option Name → ℕ → Type 0
 LoadsPointer align did name tag = (word : ℕ) × Reads align word name tag × did (Loads word)
 
--- one load found the word of a pointer that has this number, beside its tag
+-- one load found this number, and it is the word of a pointer
 abbrev pub LoadsNumber : (WordStep → Type 0) → ℕ → Type 0
-LoadsNumber did number =
-    (word : ℕ) × IsPointerWord word × (word ≡ number + tag_in word) × did (Loads word)
+LoadsNumber did number = IsPointerWord number × did (Loads number)
 
 -- one store was of the word of a pointer that this becomes
 abbrev pub StoresPointer : (align : ℕ) → (WordStep → Type 0) → (Option Name → ℕ → Type 0) → Type 0

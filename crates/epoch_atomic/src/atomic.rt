@@ -40,8 +40,8 @@ use std::fmt::Debug;
 use std::marker::PhantomData;
 use std::sync::atomic::{AtomicIn, Ordering};
 pub use update::UpdateFault;
-pub use word::{HasWord, PointerWord, SharedWord};
-use word::{name_in, pointer_word};
+use word::pointer_word;
+pub use word::{HasWord, PointerWord, SharedWord, name_in};
 
 /// A pointer with a tag that threads share: null, or the name of a value in a cell.
 ///

@@ -1,5 +1,4 @@
 pub mod Retiring
-pub mod Named
 pub mod Steps
 pub use Rattle.epoch_lend.specs.Parted
 pub use Rattle.epoch_lend.specs.Posts

@@ -3,8 +3,8 @@ use Rattle.std.specs.Prelude.{◌≡◌, ◌⊎◌, ℕ, List, [], ◌∷◌, �
 use Rattle.epoch_cells.specs.declared.cells.name.Name.{Name}
 use Rattle.epoch_lend.specs.Grace.{PinStep}
 use Rattle.epoch_lend.specs.Grace.PinStep.{Ticks}
+use Rattle.epoch_atomic.specs.Pointers.{HasName}
 use Rattle.epoch_atomic.specs.WordSteps.{WordStep, LoadsPointer}
-use Rattle.epoch_lend_pointers.specs.Named.{name_number}
 use Rattle.epoch_lend_pointers.specs.Retiring.{spot_at}
 use Rattle.epoch_lend.specs.declared.array.cells.SlotTurn.{SlotTurn}
 
@@ -34,9 +34,9 @@ GathersOn ticked did None old new = ⊥
 GathersOn ticked did (Some name) old new =
     (new ≡ old ++ spot_at name ∷ []) ⊎ ((new ≡ spot_at name ∷ []) × HandsOver ticked did old)
 
--- The value was found under the name that has this number.
+-- The value was found under the name that stands in this number.
 abbrev pub LendsNumbered : {T : Type 0} → (StoreStep T → Type 0) → (number : ℕ) → T → Type 0
-LendsNumbered did number value = (name : Name) × (number ≡ name_number name) × did (Lends name value)
+LendsNumbered did number value = (name : Name) × HasName number (Some name) × did (Lends name value)
 
 -- A pointer was loaded, and the value was found under the name that it had.
 abbrev pub LendsLoaded : {T : Type 0} → (align : ℕ) → (WordStep → Type 0) → (StoreStep T → Type 0) → T → Type 0

@@ -1,14 +1,13 @@
 //! Looks that are kept: while a pointer leads to the same value, it is lent again without a look at its cell.
 ghost use Rattle.std.specs.Prelude.{◌≡◌, IfSome};
 ghost use Rattle.std.specs.Option.{ForSome};
-ghost use Rattle.epoch_lend_pointers.specs.Named.{name_number};
 ghost use Rattle.epoch_lend_pointers.specs.Steps.{LendsLoaded, LendsNumbered};
 ghost use Rattle.epoch_lend_pointers.specs.Steps.StoreStep.{Lends};
 
 use crate::steps::{HasStoreSteps, StoreSteps};
 use crate::store::Store;
 use epoch_atomic::Pointable;
-use epoch_atomic::atomic::{Atomic, SharedWord};
+use epoch_atomic::atomic::{Atomic, SharedWord, name_in};
 use epoch_cells::Name;
 use epoch_lend::readers::posts::PostSet;
 use epoch_lend::session::LendingGuard;
@@ -23,19 +22,11 @@ use std::sync::atomic::Ordering::SeqCst;
 pub struct Cached<'g, 's, 'd, J: PostSet, T: Drop, M: StoreSteps<T>> {
     store: &'g Store<'s, J, T>,
     guard: &'g LendingGuard<'d, J>,
-    // The number of the pointers to the value. 0: there is no value.
+    // The number of the pointer that led to the value. 0: there is no value.
     number: u64,
     value: Option<&'g T>,
     steps: PhantomData<M>,
     ghost found: { ForSome value (λ value. ∥ LendsNumbered (M.did J.posts store.now.number) number value.now ∥₁) },
-}
-
-// The number of each pointer to the value of this name, less its tag.
-#[inline(always)]
-fn number_of(name: Name) -> u64
-    ensures { result ≡ name_number name }
-{
-    name.turn() as u64 * 0x1_0000_0000 + name.slot() as u64 * 0x100
 }
 
 impl<'s, J: PostSet, T: Drop> Store<'s, J, T> {
@@ -74,18 +65,19 @@ impl<'g, 's, 'd, J: PostSet, T: Pointable + Drop, M: StoreSteps<T>> Cached<'g, '
         ensures did { IfSome result (λ value. ∥ LendsLoaded T.ALIGN (A.did at.now.word)
             (M.did J.posts self.old.store.now.number) value.now ∥₁) }
     {
-        if let Some(value) = self.unchanged(at) {
+        let number = at.load_number(SeqCst);
+        if let Some(value) = self.kept(number) {
             return Some(value);
         }
-        let name = self.store.load(at, SeqCst, self.guard).name()?;
+        let name = name_in(number)?;
         let value = look_apart::<J, T, M>(self.store, name, self.guard)?;
-        self.number = number_of(name);
+        self.number = number;
         self.value = Some(value);
         Some(value)
     }
 
-    /// Loads the pointer, and lends its value if that is the one which was got last. `None`: the pointer has changed
-    /// since, or is null. A caller then renews its guard, which holds back what was there before.
+    /// Loads the pointer, and lends its value if that was got by this very pointer. `None`: it has changed since, if
+    /// only its tag, or is null. A caller then renews its guard, which holds back what was there before.
     #[inline(always)]
     pub fn unchanged<A: SharedWord>(&self, at: &Atomic<T, A>) -> Option<&'g T>
     where
@@ -93,10 +85,18 @@ impl<'g, 's, 'd, J: PostSet, T: Pointable + Drop, M: StoreSteps<T>> Cached<'g, '
         ensures did { IfSome result (λ value. ∥ LendsLoaded T.ALIGN (A.did at.now.word)
             (M.did J.posts self.now.store.now.number) value.now ∥₁) }
     {
-        if at.load_number(SeqCst) != self.number {
-            return None;
-        }
-        self.value
+        self.kept(at.load_number(SeqCst))
+    }
+
+    // Lends the value that was got last, if that was under the name in this number.
+    #[inline(always)]
+    fn kept(&self, number: u64) -> Option<&'g T>
+    where
+        T: HasStoreSteps<M>,
+        ensures { IfSome result (λ value.
+            ∥ LendsNumbered (M.did J.posts self.now.store.now.number) number value.now ∥₁) }
+    {
+        if number == self.number { self.value } else { None }
     }
 }
 

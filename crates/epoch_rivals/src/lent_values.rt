@@ -89,7 +89,10 @@ fn unchanged_reads<'s, J: PostSet>(
     most: u64,
 ) -> (u64, u64) {
     let mut cached = store.cached(guard);
-    let mut sum = sum_of(cached.get(pointer));
+    let Some(first) = cached.get(pointer) else {
+        return (0, 1);
+    };
+    let mut sum = first.sum();
     for count in 1..most {
         let Some(value) = cached.unchanged(pointer) else {
             return (sum, count);

@@ -74,15 +74,16 @@ impl<T: Pointable, A: SharedWord> Atomic<T, A> {
         read_at(self.word.load(order), home)
     }
 
-    /// Loads the pointer's number, less its tag. Pointers to one value have one such number, pointers to other values
-    /// have others, and null has 0. So it tells whether a pointer leads to the same value as before. The load acts as
-    /// `SeqCst`, whichever ordering is asked for. It is this library's own: crossbeam-epoch has no such call.
+    /// Loads the pointer's number, in which its name and its tag stand. Pointers with one name and one tag have one
+    /// number, all others have others, and null with tag 0 has 0. So it tells whether a pointer is the same as before.
+    /// The load acts as `SeqCst`, whichever ordering is asked for. It is this library's own: crossbeam-epoch has no
+    /// such call.
     #[inline(always)]
     pub fn load_number(&self, order: Ordering) -> u64
-        // A load of a pointer's number loads the pointer's word, and returns it less the tag.
+        // A load of a pointer's number loads the pointer's word, and returns it.
         ensures did { LoadsNumber (A.did self.now.word) result }
     {
-        self.word.load(order) / 0x100 * 0x100
+        self.word.load(order)
     }
 
     /// Stores a pointer. The value of the pointer before stays in its cell. The store acts as `SeqCst`, whichever

@@ -159,12 +159,14 @@ pub fn pointer_word<T: Pointable>(name: Option<Name>, tag: u8) -> u64
     number(name, tag_of::<T>(tag as usize))
 }
 
-// The name that stands in a pointer's word.
+/// Returns the name that stands in a pointer's number, or `None` if that is of a pointer that is null. It is this
+/// library's own: crossbeam-epoch has no such call.
 #[inline(always)]
-pub fn name_in(word: u64) -> Option<Name>
-    requires { IsPointerWord word }
-    ensures { HasName word result }
+pub fn name_in(number: u64) -> Option<Name>
+    requires { IsPointerWord number }
+    // What stands in a pointer's number is its name.
+    ensures { HasName number result }
 {
-    let slot = word / 0x100 % 0x100_0000;
-    Name::new(slot as u32, (word / 0x1_0000_0000) as u32)
+    let slot = number / 0x100 % 0x100_0000;
+    Name::new(slot as u32, (number / 0x1_0000_0000) as u32)
 }
