@@ -45,11 +45,13 @@ impl ValueCrew<u64> for OneValue {
         self.0.note(0, value.read(|seen| *seen).is_none());
         self.0
             .note(1, value.update(|seen| Some(*seen)) == Ok(false));
-        self.0.note(2, value.replace(7).is_ok());
+        self.0.note(2, value.replace(6).is_ok());
         self.0
             .note(3, value.update(|seen| seen.checked_add(1)) == Ok(true));
         self.0.note(4, value.update(|_seen| None) == Ok(false));
-        self.0.note(5, value.read(|seen| *seen) == Some(8));
+        let bounded = value.update_within(1, |seen| seen.checked_add(1));
+        self.0.note(5, bounded == Ok(true));
+        self.0.note(6, value.read(|seen| *seen) == Some(8));
     }
 
     fn thread(&self, _number: usize, value: &mut impl SharedValue<u64>) {
@@ -59,7 +61,7 @@ impl ValueCrew<u64> for OneValue {
     }
 
     fn after(&self, value: &mut impl SharedValue<u64>) {
-        self.0.note(6, value.read(|seen| *seen) == Some(408));
+        self.0.note(7, value.read(|seen| *seen) == Some(408));
     }
 }
 
@@ -71,13 +73,15 @@ struct OneStack {
 }
 
 impl OneStack {
-    // Pushes until each cell is in use, and pops it all.
+    // Pushes until each cell is in use, and pops one.
     fn fill(&self, stack: &mut impl SharedStack<u64>) {
         for number in 0..1_000u64 {
             if let Err(refused) = stack.push(number) {
                 let is_back = refused.fault == Fault::CellsFull && refused.value == number;
                 self.found.note(5, is_back);
-                self.found.note(6, stack.pop() == Ok(number.checked_sub(1)));
+                let bounded = stack.push_within(number, 1).map_err(|back| back.fault);
+                self.found.note(6, bounded == Err(Fault::CellsFull));
+                self.found.note(7, stack.pop() == Ok(number.checked_sub(1)));
                 return;
             }
         }
@@ -91,6 +95,8 @@ impl StackCrew<u64> for OneStack {
         self.found.note(2, stack.push(2).is_ok());
         self.found.note(3, stack.pop() == Ok(Some(2)));
         self.found.note(4, stack.pop() == Ok(Some(1)));
+        self.found.note(8, stack.push_within(3, 1).is_ok());
+        self.found.note(9, stack.pop_within(1) == Ok(Some(3)));
     }
 
     fn thread(&self, _number: usize, stack: &mut impl SharedStack<u64>) {
@@ -249,6 +255,9 @@ impl Alone {
         self.sent.note(2, channel.send(2).is_ok());
         self.sent.note(3, channel.try_receive() == Ok(Some(1)));
         self.sent.note(4, channel.try_receive() == Ok(Some(2)));
+        self.sent.note(5, channel.send_within(3, 2).is_ok());
+        self.sent
+            .note(6, channel.try_receive_within(1) == Ok(Some(3)));
     }
 }
 
@@ -277,21 +286,21 @@ impl Crew<(), u64, u64, u64> for Alone {
 fn four_threads_add_to_one_value(rt: HostRuntime) {
     let crew = OneValue::default();
     want_threads(&rt, share_value(&rt, rt.alloc(), 4, &crew), 4);
-    want(&rt, "a value", &crew.0, 127);
+    want(&rt, "a value", &crew.0, 255);
 }
 
 #[test]
 fn no_thread_takes_part_where_none_is_asked_for(rt: HostRuntime) {
     let crew = OneValue::default();
     want_threads(&rt, share_value(&rt, rt.alloc(), 0, &crew), 0);
-    want(&rt, "a value", &crew.0, 63);
+    want(&rt, "a value", &crew.0, 127);
 }
 
 #[test]
 fn a_stack_gives_what_went_in_last_and_hands_back_what_finds_no_cell(rt: HostRuntime) {
     let crew = OneStack::default();
     want_threads(&rt, share_stack(&rt, rt.alloc(), 2, 200, &crew), 2);
-    want(&rt, "a stack", &crew.found, 127);
+    want(&rt, "a stack", &crew.found, 1_023);
     assert_eq!(rt; crew.popped.load(SeqCst), 9_900);
 }
 
@@ -326,5 +335,5 @@ fn a_map_and_a_channel_say_what_was_there(rt: HostRuntime) {
     };
     want_threads(&rt, share(&rt, rt.alloc(), sizes, &crew), 1);
     want(&rt, "a map", &crew.entries, 4_095);
-    want(&rt, "a channel", &crew.sent, 31);
+    want(&rt, "a channel", &crew.sent, 127);
 }

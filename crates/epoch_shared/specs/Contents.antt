@@ -1,13 +1,9 @@
 -- What stands in a node, and which entries there are.
-use Rattle.std.specs.Prelude.{◌≡◌, Option, Some}
+use Rattle.std.specs.Prelude.{◌≡◌}
 
 -- One node has this value.
 abbrev pub IsInNode : {N V : Type 0} → (N → V) → V → Type 0
 IsInNode {N} value_of value = (node : N) × (value_of node ≡ value)
-
--- One node was made with this value.
-abbrev pub IsMoved : {N V : Type 0} → (N → Option V) → V → Type 0
-IsMoved {N} made_with value = (node : N) × (made_with node ≡ Some value)
 
 -- Some entry has a key of which this is so.
 abbrev pub HasEntry : {K V : Type 0} → (K → V → Type 0) → (K → Type 0) → Type 0

@@ -1,5 +1,5 @@
 //! One value, which is read all the time and replaced now and then.
-ghost use Rattle.std.specs.Prelude.{◌≡◌, ◌⊎◌, true, false, Ok, IsOk, IsSome, IfErr, IfSome};
+ghost use Rattle.std.specs.Prelude.{◌≡◌, ◌⊎◌, true, false, Ok, Err, IsOk, IsSome, IsTrue, IfErr, IfSome};
 ghost use Rattle.std.specs.Fn.{CalledAt, FnOnceReturnsAt};
 ghost use Rattle.epoch_cells.specs.declared.fault.Fault.TheVariants.{CellsFull, NoMemory, TableFull, TriesOut};
 ghost use Rattle.epoch_shared.specs.Contents.{IsInNode};
@@ -56,6 +56,22 @@ pub trait SharedValue<T> {
         // `NoMemory` or `TriesOut`.
         ensures made { result ≡ Ok true → MakesLast is_value (CalledAt F.FnMut) change }
         ensures refused { IfErr result (λ fault. (fault ≡ NoMemory) ⊎ (fault ≡ TriesOut)) };
+
+    /// Replaces the present value as [`SharedValue::update`] does, but tries at most `tries` times to exchange the
+    /// pointer, and waits for no cell.
+    ///
+    /// `CellsFull`: no free cell was found. `NoMemory`: as of [`SharedValue::update`]. `TriesOut`: another thread was
+    /// first in each try. The present value stays.
+    fn update_within<F: FnMut(&T) -> Option<T> + Drop>(
+        &mut self,
+        tries: u32,
+        change: F,
+    ) -> Result<bool, Fault>
+        requires { F.IsAlwaysCallable change }
+        ensures made { result ≡ Ok true → MakesLast is_value (CalledAt F.FnMut) change }
+        ensures refused { IfErr result (λ fault. (fault ≡ CellsFull) ⊎ (fault ≡ NoMemory) ⊎ (fault ≡ TriesOut)) }
+        // An update with 0 tries is refused with `TriesOut`.
+        ensures no_tries { tries ≡ 0 → result ≡ Err TriesOut };
 }
 
 /// A type of nodes that have one value each. What has to do with a store is stated over such a type, and not over the
@@ -164,6 +180,35 @@ impl<'a, 'q, 's, J: PostSet, N: Wraps> ValueHold<'a, 'q, 's, J, N> {
         self.session.unpin(guard);
         put
     }
+
+    // Tries so often to replace the value by what `change` makes of it. Where no free cell is found, a call that waits
+    // tries again, and another one is refused.
+    fn update_in<F: FnMut(&N::Value) -> Option<N::Value> + Drop>(
+        &mut self,
+        tries: u32,
+        waits: bool,
+        change: F,
+    ) -> Result<bool, Fault>
+        requires { F.IsAlwaysCallable change }
+        ensures made { result ≡ Ok true → MakesLast (IsInNode N.inside) (CalledAt F.FnMut) change }
+        ensures refused { IfErr result (λ fault. (fault ≡ CellsFull) ⊎ (fault ≡ NoMemory) ⊎ (fault ≡ TriesOut)) }
+        ensures waited { IsTrue waits → IfErr result (λ fault. (fault ≡ NoMemory) ⊎ (fault ≡ TriesOut)) }
+        ensures no_tries { tries ≡ 0 → result ≡ Err TriesOut }
+    {
+        let mut change = change;
+        let at = self.at;
+        for _ in 0..tries {
+            let guard = self.session.pin();
+            let changed = change_once(&mut self.writer, &guard, at, &mut change);
+            self.session.unpin(guard);
+            match changed {
+                Err(Fault::TriesOut | Fault::CellsFull) if waits => thread::yield_now(),
+                Err(Fault::TriesOut) => {}
+                done => return done,
+            }
+        }
+        Err(Fault::TriesOut)
+    }
 }
 
 impl<J: PostSet, N: Wraps> SharedValue<N::Value> for ValueHold<'_, '_, '_, J, N> {
@@ -197,18 +242,15 @@ impl<J: PostSet, N: Wraps> SharedValue<N::Value> for ValueHold<'_, '_, '_, J, N>
         &mut self,
         change: F,
     ) -> Result<bool, Fault> {
-        let mut change = change;
-        let at = self.at;
-        for _ in 0..TRIES {
-            let guard = self.session.pin();
-            let changed = change_once(&mut self.writer, &guard, at, &mut change);
-            self.session.unpin(guard);
-            match changed {
-                Err(Fault::TriesOut | Fault::CellsFull) => thread::yield_now(),
-                done => return done,
-            }
-        }
-        Err(Fault::TriesOut)
+        self.update_in(TRIES, true, change)
+    }
+
+    fn update_within<F: FnMut(&N::Value) -> Option<N::Value> + Drop>(
+        &mut self,
+        tries: u32,
+        change: F,
+    ) -> Result<bool, Fault> {
+        self.update_in(tries, false, change)
     }
 }
 

@@ -1,7 +1,7 @@
 use Rattle.std.specs.Fn.{CalledAt}
 use Rattle.epoch_shared.specs.Contents.{IsInNode}
 use Rattle.epoch_shared.proofs.Updates.{goes_on}
-use Rattle.epoch_shared.proofs.value.ValueHoldSharedValueValue.update.Goals as goal
+use Rattle.epoch_shared.proofs.value.ValueHold.update_in.Goals as goal
 
 -- this try has called the closure once more, or not at all
 pub loop-preserved : goal.loop-preserved

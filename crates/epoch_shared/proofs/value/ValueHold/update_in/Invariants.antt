@@ -1,7 +1,7 @@
 use Rattle.std.specs.Fn.{CalledAt}
 use Rattle.epoch_shared.specs.Contents.{IsInNode}
 use Rattle.epoch_shared.specs.Updates.{GoesOn}
-use Rattle.epoch_shared.proofs.value.ValueHoldSharedValueValue.update.Given as goal
+use Rattle.epoch_shared.proofs.value.ValueHold.update_in.Given as goal
 
 -- the closure may be called again, and has come to its state by calls at some values
 abbrev pub invariant-loop : goal.invariant-loop
