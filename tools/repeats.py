@@ -16,8 +16,8 @@ import re
 import sys
 
 LIST = 5
-CLAUSES = 999
-LISTS = 31
+CLAUSES = 997
+LISTS = 30
 LEMMAS = 0
 STATEMENTS = 24
 
