@@ -5,6 +5,7 @@ ghost use Rattle.epoch_bags.specs.Jobs.{AnswersJob, IsCalled};
 use crate::collector::Collector;
 use crate::rooms::GuardRooms;
 use epoch_bags::{Called, Job, Run, Work};
+use epoch_tables::Seated;
 use std::{fmt, mem};
 
 /// A guard, under which pointers are loaded. It must be given back.
@@ -41,7 +42,10 @@ pub struct Guard<'c, T, W = Work> {
 /// apart when only its owner is left. It needs no handle, and each call returns one more guard, which is given back to
 /// [`Guard::let_go`]. As `unprotected` of crossbeam-epoch, which is unsafe to call. Here every call under the guard is
 /// safe, but a value that another thread still wants to read may be gone.
-pub fn unprotected<T, W>(collector: &Collector<T, W>) -> Guard<'_, T, W>
+///
+/// Code that is generic over its kind of work needs the bound [`Seated`] for this. Calls of handles and of structures
+/// don't have it: they can't make such a guard, and have a job called early by it.
+pub fn unprotected<T, W: Seated>(collector: &Collector<T, W>) -> Guard<'_, T, W>
     ensures protects { result.position ≡ None }
     ensures of { result.collector.now ≡ collector.now }
 {
@@ -115,7 +119,14 @@ impl<'c, T: Drop, W> Guard<'c, T, W> {
         ensures taken { result ≡ self.old }
         ensures left { self.new.position ≡ None }
     {
-        mem::replace(self, unprotected(self.collector))
+        let (collector, position) = (self.collector, None);
+        let rooms = GuardRooms::new(None);
+        let none = Guard {
+            collector,
+            position,
+            rooms,
+        };
+        mem::replace(self, none)
     }
 
     /// Puts the guard back that was taken out.
