@@ -1,3 +1,4 @@
+pub mod Finding
 pub mod Gathering
 pub mod Moving
 pub mod Nodes
