@@ -109,15 +109,13 @@ fn reads_under<'s, J: PostSet>(
     pointer: &Atomic<Small>,
     guard: &LendingGuard<'_, J>,
 ) -> u64 {
-    let mut left = TOGETHER;
-    let mut sum: u64 = 0;
-    for _ in 0..TOGETHER {
-        if left == 0 {
-            break;
-        }
-        let (summed, reads) = unchanged_reads(store, pointer, guard, left);
-        sum = sum.wrapping_add(summed);
-        left = left.saturating_sub(reads);
+    let mut cached = store.cached(guard);
+    let Some(first) = cached.get(pointer) else {
+        return 0;
+    };
+    let mut sum = first.sum();
+    for _ in 1..TOGETHER {
+        sum = sum.wrapping_add(sum_of(cached.get(pointer)));
     }
     sum
 }
