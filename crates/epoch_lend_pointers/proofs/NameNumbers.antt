@@ -12,5 +12,5 @@ pub loads_named : (align log : ℕ) (did : WordStep → Type 0) (number : ℕ) (
     → (tag : ℕ) × LoadsPointer align did (Some name) tag
 loads_named align log did number name is_power loaded named =
     let below : tag_in number % align < align =
-        mod-lt (tag_in number) (subst (λ n. 0 < n) (sym is_power) (pow_pos log)) in
+    mod-lt (tag_in number) (subst (λ n. 0 < n) (sym is_power) (pow_pos log)) in
     (tag_in number % align, (number, (loaded.0, named, refl, below), loaded.1))

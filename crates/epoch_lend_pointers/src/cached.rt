@@ -96,7 +96,11 @@ impl<'g, 's, 'd, J: PostSet, T: Pointable + Drop, M: StoreSteps<T>> Cached<'g, '
         ensures { IfSome result (λ value.
             ∥ LendsNumbered (M.did J.posts self.now.store.now.number) number value.now ∥₁) }
     {
-        if number == self.number { self.value } else { None }
+        if number == self.number {
+            self.value
+        } else {
+            None
+        }
     }
 }
 

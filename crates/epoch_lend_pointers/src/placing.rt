@@ -137,8 +137,7 @@ impl<'q, 's, J: PostSet, T: Drop> Writer<'q, 's, J, T> {
     /// name. It takes two exchanges more: the free cell is given up and claimed anew, so that it is known to be one of
     /// the store's.
     ///
-    /// `CellsFull`: as of [`Writer::place`]; or another thread has claimed the cell in between. The value is handed
-    /// back.
+    /// `CellsFull`: as of [`Writer::place`]; or another thread has claimed the cell since. The value is handed back.
     pub fn place_with_witness<'g, S: PinSteps, M: StoreSteps<T>>(
         &mut self,
         guard: &'g LendingGuard<'_, J>,

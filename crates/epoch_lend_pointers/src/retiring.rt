@@ -154,8 +154,7 @@ impl<'q, 's, J: PostSet, T: Drop> Writer<'q, 's, J, T> {
         }
     }
 
-    /// Retires the value of this name, as [`Writer::retire`] does: makes room, and gathers it. The name must be of the
-    /// writer's store.
+    /// Retires the value of this name, as [`Writer::retire`] does. The name must be of the writer's store.
     ///
     /// `NoMemory`: the value is not retired.
     #[inline(always)]

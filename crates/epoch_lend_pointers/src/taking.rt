@@ -46,8 +46,7 @@ impl<'q, 's, J: PostSet, T: Drop> Writer<'q, 's, J, T> {
         }
     }
 
-    /// Does what [`Writer::take_back`] does, and returns a witness, too, that this value was placed under the pointer's
-    /// name.
+    /// Does what [`Writer::take_back`] does, and returns a witness that the value was placed under the pointer's name.
     #[inline(always)]
     pub fn take_back_with_witness<'g>(
         &mut self,

@@ -33,8 +33,7 @@ pub fn name_of(spot: SlotTurn) -> Name
     Name::at(spot.slot as u32, spot.turn as u32)
 }
 
-/// Returns the name of the next value that is placed in this room. `None`: the cell has had its last turn, or none of
-/// its values has a name.
+/// Returns the name of this room's next value. `None`: the cell has had its last turn, or its values have no names.
 #[inline(always)]
 pub fn next_name<J: PostSet, T>(room: &LentRoom<'_, J, T>) -> Option<Name>
     ensures slot { IfSome result (λ name. name.slot ≡ room.now.position) }

@@ -10,6 +10,6 @@ returns-then-number-self g c =
     let kept : ℕ = c.args.self.now.number in
     let same : kept ≡ c.args.number = sym c.if-number-self.true in
     found_before (λ v. LendsNumbered did kept v.now) (λ v. LendsNumbered did c.args.number v.now)
-        c.args.self.now.value
-        (λ v told. subst (λ n. LendsNumbered did n v.now) same told)
-        c.args.self.now.found
+    c.args.self.now.value
+    (λ v told. subst (λ n. LendsNumbered did n v.now) same told)
+    c.args.self.now.found
