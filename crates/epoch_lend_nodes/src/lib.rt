@@ -2,6 +2,7 @@
 //! removals.
 #![tactic(auto)]
 
+mod finding;
 mod gathering;
 mod link;
 mod node;
@@ -10,6 +11,7 @@ mod points;
 mod serving;
 mod spots;
 
+pub use finding::node_named;
 pub use gathering::Gathers;
 pub use link::{Changing, Link};
 pub use node::{LentNode, ListNode};

@@ -8,7 +8,7 @@ use crate::node::MapNode;
 use epoch_cells::Name;
 use epoch_lend::readers::posts::PostSet;
 use epoch_lend::session::LendingGuard;
-use epoch_lend_nodes::Link;
+use epoch_lend_nodes::{Link, node_named};
 use epoch_lend_pointers::Store;
 use epoch_lend_pointers::steps::{HasStoreSteps, InStores, StoreSteps};
 use std::marker::PhantomData;
@@ -111,7 +111,7 @@ where
 {
     let mut next = next;
     for _ in 0..u64::MAX {
-        let node = found_as(store, guard, next)?;
+        let node = node_named(store, guard, next)?;
         let after = node.next().load(store);
         next = after.name();
         // A node whose entry was removed has a pointer with tag 1, and leads on all the same.
@@ -120,19 +120,4 @@ where
         }
     }
     None
-}
-
-/// Lends the node of this name, if there is one.
-#[inline(always)]
-pub(crate) fn found_as<'g, J: PostSet, N: MapNode, M: StoreSteps<N>>(
-    store: &Store<'_, J, N>,
-    guard: &'g LendingGuard<'_, J>,
-    name: Option<Name>,
-) -> Option<&'g N>
-where
-    N: HasStoreSteps<M>,
-    ensures { IfSome result (λ node. IsFound (M.did J.posts store.now.number) node.now) }
-{
-    let node = store.get_named(name?, guard)?;
-    Some(node)
 }
